@@ -4,5 +4,7 @@ pub mod Depth
 pub mod Valid
 pub mod Scan
 pub mod Read
+pub mod Parts
+pub mod Figures
 pub mod Refusals
 pub mod Laws
