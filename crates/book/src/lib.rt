@@ -1,0 +1,1 @@
+// The plain book of texts, and what it holds after any calls.
