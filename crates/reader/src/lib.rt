@@ -1,0 +1,5 @@
+// Reads signatures, and says where a text goes wrong.
+pub mod cursor;
+pub mod reading;
+
+pub use reading::validate;
