@@ -1,5 +1,6 @@
 -- The refusals: the number of each, and the values that it gives.
-use mathlib.Core.List.{List, [], _∷_}
+use mathlib.Core.List.{List, [], _∷_, _++_}
+use Rattle.std.specs.Written.{decimal}
 use Prim.Native.Nat.{ℕ}
 use Rattle.std.specs.declared.result.Result.{Result}
 use Rattle.std.specs.declared.result.Result.the-variants.{Ok, Err}
@@ -46,3 +47,15 @@ pub data Outcome (A : Type 0) : Type 0 where
 abbrev pub outcome : {A : Type 0} → Result A Refusal → Outcome A
 outcome (Ok x) = accepted x
 outcome (Err e) = refused (numberOf e) (valuesOf e)
+
+-- A refusal as it is shown: its number and its values, a space (32) before each; a cause is its letter.
+abbrev pub shownOf : Refusal → List ℕ
+shownOf TextTooLong = decimal 1
+shownOf (Invalid f) = decimal 2 ++ 32 ∷ letterOf (f .cause) ∷ 32 ∷ decimal (f .place)
+shownOf (Unknown p) = decimal 3 ++ 32 ∷ decimal p
+shownOf (UnitPart p) = decimal 4 ++ 32 ∷ decimal p
+shownOf NoFields = decimal 5
+shownOf WrongKind = decimal 6
+shownOf FormTooLong = decimal 7
+shownOf NoRows = decimal 8
+shownOf ShortBuffer = decimal 9

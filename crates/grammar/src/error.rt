@@ -1,7 +1,10 @@
 // Why a text is no signature, and why a call says no.
 ghost use mathlib.Core.Path.{_≡_};
 ghost use Rattle.grammar.specs.declared.error.Refusal.the-variants.{Invalid as Faulty};
-ghost use Rattle.grammar.specs.Refusals.{letterOf, numberOf};
+ghost use mathlib.Core.List.{[], _∷_};
+ghost use Rattle.std.specs.declared.option.Option.the-variants.{Some as Shown};
+ghost use Rattle.grammar.specs.Refusals.{letterOf, numberOf, shownOf};
+use std::fmt;
 
 // Why a text goes wrong at its place.
 #[derive(Clone, Copy, Drop, PartialEq, Eq, Debug)]
@@ -80,6 +83,38 @@ impl Refusal {
             Refusal::FormTooLong => 7,
             Refusal::NoRows => 8,
             Refusal::ShortBuffer => 9,
+        }
+    }
+}
+
+// A cause is shown as its letter.
+pub impl fmt::Display for Cause as CauseDisplay {
+    ghost shown = { λ c. Shown (letterOf c ∷ []) };
+
+    fn fmt<W: fmt::Write>(&self, f: &mut fmt::Formatter<W>) -> fmt::Result {
+        match self {
+            Cause::Ended => write!(f, "E"),
+            Cause::TooDeep => write!(f, "D"),
+            Cause::Unexpected => write!(f, "U"),
+        }
+    }
+}
+
+// A refusal is shown as its number and the values that it gives, one space between.
+pub impl fmt::Display for Refusal as RefusalDisplay {
+    ghost shown = { λ r. Shown (shownOf r) };
+
+    fn fmt<W: fmt::Write>(&self, f: &mut fmt::Formatter<W>) -> fmt::Result {
+        let number = self.number();
+        match self {
+            Refusal::Invalid(fault) => {
+                let cause = fault.cause;
+                let place = fault.place;
+                write!(f, "{number} {cause} {place}")
+            }
+            Refusal::Unknown(position) => write!(f, "{number} {position}"),
+            Refusal::UnitPart(position) => write!(f, "{number} {position}"),
+            _ => write!(f, "{number}"),
         }
     }
 }

@@ -1,0 +1,3 @@
+// Examples of what the crates below should do, run as tests.
+#[cfg(test)]
+mod reading;
