@@ -1,0 +1,3 @@
+// Writers, which take bytes one after another or decline them.
+pub mod laws;
+pub mod writer;
