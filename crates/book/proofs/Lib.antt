@@ -1,0 +1,6 @@
+pub mod Lists
+pub mod NodeShapes
+pub mod Figured
+pub mod Sound
+pub mod Interned
+pub mod Tails
