@@ -4,3 +4,5 @@ pub mod Figured
 pub mod Sound
 pub mod Interned
 pub mod Tails
+pub mod Calls
+pub mod Agree

@@ -1,3 +1,4 @@
 pub mod Plain
 pub mod Nodes
 pub mod Makers
+pub mod Agree
