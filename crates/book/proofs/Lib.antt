@@ -6,3 +6,4 @@ pub mod Interned
 pub mod Tails
 pub mod Calls
 pub mod Agree
+pub mod MakersAgree
