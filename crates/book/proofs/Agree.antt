@@ -30,12 +30,12 @@ folded (x ∷ xs) pre acc g c d =
     (subst (λ (m : ℕ). Chain m xs) (sym (length-push acc s)) (c .1))
     (subst Distinct (sym (append-assoc pre (x ∷ []) xs)) d))
 
-pub shapes-sound : (ns : List Node) → Chain 0 ns → Distinct ns → Sound ns (shapesFrom [] ns)
-shapes-sound ns c d = folded ns [] [] start c d
+pub good-sound : (ns : List Node) → Good ns → Sound ns (shapesFrom [] ns)
+good-sound ns g = folded ns [] [] start (g .chain) (g .once)
 
 pub agrees : Each-call-agrees
 agrees limits ns g c =
-    let s = simulates limits ns (shapesFrom [] ns) (shapes-sound ns (g .chain) (g .once)) c in
+    let s = simulates limits ns (shapesFrom [] ns) (good-sound ns g) c in
     record {
       good = record { chain = s .sound .chain; once = s .sound .once };
       answer = s .answer;

@@ -28,7 +28,7 @@ use Rattle.grammar.proofs.ReadBack.{reading-printed, readAll-printed, reading-e
 use Rattle.book.proofs.Lists.{in-getD, All, All2, add-all-old, add-all-append, long2}
 use Rattle.book.proofs.NodeShapes.{same-texts, Row, basics-long}
 use Rattle.book.proofs.Figured.{node-figures}
-use Rattle.book.proofs.Sound.{Sound, inner, inner-is, inner-in, in-map, start}
+use Rattle.book.proofs.Sound.{Sound, as-many, inner, inner-is, inner-in, in-map, start}
 use Rattle.book.proofs.Interned.{Made, entered, interned, text-is, number-is, known-is}
 use Rattle.book.proofs.Tails.{tails-count}
 
@@ -161,7 +161,7 @@ pub record Step (r : Answer × List Node) (b : Answer × List Text) : Type 0 whe
   pub answer : r .0 ≡ b .0
 
 longs : (ns : List Node) (ss : List Shape) → Sound ns ss → length ns ≡ length (map printed ss)
-longs ns ss g = long2 (Row ss) ns (map printed ss) (g .each)
+longs ns ss g = as-many ns ss g ∙ sym (length-map ss printed)
 
 needed-same : (ns : List Node) (ss : List Shape) (c : Call) (w : Text) → Same ns ss (Nodes.grown ns c) (sizeCall ns c) w → Nodes.needed ns c ≡ needed (map printed ss) w
 needed-same ns ss c w m = λ i. record {

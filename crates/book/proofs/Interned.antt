@@ -18,7 +18,7 @@ use Rattle.book.specs.Nodes.{Node, array, maybe, dict, structure, code, sameNo
 use Rattle.grammar.proofs.ReadBack.{printed-inj, head}
 use Rattle.book.proofs.Lists.{Decides, numbers, All, All2, in-getD, has-in, in-has, not-in, in-not, add-old, add-new, add-all-append, add-all-old, place-in, place-out, place-at, has2, place2, long2, distinct-at}
 use Rattle.book.proofs.NodeShapes.{same-texts, same-nodes, Num, Row, keep-node, basics-long, basics-count, at-more, at-shape}
-use Rattle.book.proofs.Sound.{Sound, row, text-in, in-text, fresh, pushed, in-map, inner, inner-is, inner-in, closed-at}
+use Rattle.book.proofs.Sound.{Sound, as-many, row, text-in, in-text, fresh, pushed, in-map, inner, inner-is, inner-in, closed-at}
 
 pub record Made (ss : List Shape) (s : Shape) (after : List Text) (r : ℕ × List Node) : Type 0 where
   pub new : List Shape
@@ -35,9 +35,6 @@ entered ns ss g x k = go (cases-bool (has sameNode ns x))
   where
     s : Shape
     s = nodeShape ss x
-
-    long : length ns ≡ length ss
-    long = long2 (Row ss) ns (map printed ss) (g .each) ∙ length-map ss printed
 
     same : place sameNode ns x ≡ place sameText (map printed ss) (printed (nodeShape ss x))
     same = place2 sameNode sameText (Row ss) (keep-node ss (g .apart)) ns (map printed ss) x (printed (nodeShape ss x)) (g .each) (row ns ss g x k)
@@ -62,7 +59,7 @@ entered ns ss g x k = go (cases-bool (has sameNode ns x))
     go (inr h) =
         let n = not-in same-nodes ns x h in
         let m : In (printed (nodeShape ss x)) (map printed ss) → ⊥ = λ j. true≢false (sym (in-has same-texts (map printed ss) (printed (nodeShape ss x)) j) ∙ sym (has2 sameNode sameText (Row ss) (keep-node ss (g .apart)) ns (map printed ss) x (printed (nodeShape ss x)) (g .each) (row ns ss g x k)) ∙ h) in
-        let l : place sameNode ns x ≡ length ss = place-out same-nodes ns x n ∙ long in
+        let l : place sameNode ns x ≡ length ss = place-out same-nodes ns x n ∙ as-many ns ss g in
         let e = length-push ss (nodeShape ss x) in
         record {
           new = ss ++ nodeShape ss x ∷ [];

@@ -7,3 +7,4 @@ pub mod Tails
 pub mod Calls
 pub mod Agree
 pub mod MakersAgree
+pub mod TextFigures

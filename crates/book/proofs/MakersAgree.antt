@@ -148,7 +148,8 @@ first-unit (f ∷ fs) = go (cases-bool (eqb f 0)) (first-unit fs) (decLt (Makers
     go (inr k) ih (yes l) = rw k (rw ih (rw (lt-ltb (Makers.unitAt fs) (length fs) l, lt-ltb (Makers.unitAt fs + 1) (length (f ∷ fs)) (omega arith))))
     go (inr k) ih (no l) = rw k (rw ih (rw (le-ltb (Makers.unitAt fs) (length fs) (omega arith), le-ltb (Makers.unitAt fs + 1) (length (f ∷ fs)) (omega arith))))
 
-abbrev triple : Answer × List Node → Answer × List Node × List (List ℕ)
+-- a call with the tails after it
+abbrev pub triple : Answer × List Node → Answer × List Node × List (List ℕ)
 triple r = (r .0, r .1, tailsOf (r .1))
 
 module _ (limits : Limits) (b : List Node) (room : Room limits b) where

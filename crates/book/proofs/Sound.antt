@@ -108,6 +108,9 @@ chain-push : (m : ℕ) (xs : List Node) (y : Node) → Chain m xs → Known (m +
 chain-push m [] y c k = (known-more (m + 0) m y (omega arith) k, tt)
 chain-push m (x ∷ xs) y c k = (c .0, chain-push (m + 1) xs y (c .1) (known-more (m + suc (length xs)) (m + 1 + length xs) y (omega arith) k))
 
+pub as-many : (ns : List Node) (ss : List Shape) → Sound ns ss → length ns ≡ length ss
+as-many ns ss g = long2 (Row ss) ns (map printed ss) (g .each) ∙ length-map ss printed
+
 module _ (ns : List Node) (ss : List Shape) (g : Sound ns ss) (x : Node) (k : Known (length ss) x) where
   pub row : Row ss x (printed (nodeShape ss x))
   row = (k, refl)
@@ -139,7 +142,7 @@ module _ (ns : List Node) (ss : List Shape) (g : Sound ns ss) (x : Node) (k : Kn
         closed = λ t i c j. clo t (in-split t ss (s ∷ []) i) c j;
         figures = figures-push [] ns x ∙ rw (g .figures) (rw (node-figures ss x k) (sym (map-push figuresOf ss s)));
         fold = fold-push [] ns x ∙ ap (λ (z : List Shape). z ++ nodeShape z x ∷ []) (g .fold);
-        chain = chain-push 0 ns x (g .chain) (known-more (length ss) (0 + length ns) x (omega (arith, long2 (Row ss) ns (map printed ss) (g .each), length-map ss printed)) k);
+        chain = chain-push 0 ns x (g .chain) (known-more (length ss) (0 + length ns) x (omega (arith, as-many ns ss g)) k);
         once = distinct-push ns x (g .once) n;
       }
     where
