@@ -8,3 +8,4 @@ pub mod Calls
 pub mod Agree
 pub mod MakersAgree
 pub mod TextFigures
+pub mod Rows

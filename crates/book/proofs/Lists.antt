@@ -304,3 +304,10 @@ sameList2 sameA sameB R keep (x ∷ xs) [] (u ∷ us) [] a b = refl
 sameList2 sameA sameB R keep (x ∷ xs) [] (u ∷ us) (v ∷ vs) a b = absurd b
 sameList2 sameA sameB R keep (x ∷ xs) (y ∷ ys) (u ∷ us) [] a b = absurd b
 sameList2 sameA sameB R keep (x ∷ xs) (y ∷ ys) (u ∷ us) (v ∷ vs) a b = ap₂ _&&_ (keep x y u v (a .0) (b .0)) (sameList2 sameA sameB R keep xs ys us vs (a .1) (b .1))
+
+-- equal images, one for one
+pub map2 : {A B C : Type 0} (R : A → B → Type 0) (f : A → C) (g : B → C) → ((x : A) (u : B) → R x u → g u ≡ f x) → (xs : List A) (us : List B) → All2 R xs us → map g us ≡ map f xs
+map2 R f g h [] [] a = refl
+map2 R f g h [] (u ∷ us) a = absurd a
+map2 R f g h (x ∷ xs) [] a = absurd a
+map2 R f g h (x ∷ xs) (u ∷ us) a = ap₂ _∷_ (h x u (a .0)) (map2 R f g h xs us (a .1))

@@ -18,11 +18,11 @@ use Rattle.book.proofs.Lists.{All2, addAll2, long2, tails2, sameList2}
 use Rattle.book.proofs.NodeShapes.{Num, Row, keep-num}
 use Rattle.book.proofs.Sound.{Sound}
 
-nums : (ss : List Shape) (ns : List ℕ) → Parts (length ss) ns → All2 (Num ss) ns (map printed (listed (shapesAt ss ns)))
+pub nums : (ss : List Shape) (ns : List ℕ) → Parts (length ss) ns → All2 (Num ss) ns (map printed (listed (shapesAt ss ns)))
 nums ss [] p = tt
 nums ss (n ∷ ns) p = ((p .0, refl), nums ss ns (p .1))
 
-node-fields : (ss : List Shape) (x : Node) → Known (length ss) x → All2 (Num ss) (Nodes.fieldsOf x) (map printed (fields (nodeShape ss x)))
+pub node-fields : (ss : List Shape) (x : Node) → Known (length ss) x → All2 (Num ss) (Nodes.fieldsOf x) (map printed (fields (nodeShape ss x)))
 node-fields ss (array n) k = tt
 node-fields ss (maybe n) k = tt
 node-fields ss (dict a b) k = tt

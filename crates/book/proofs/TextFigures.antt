@@ -37,7 +37,6 @@ texts-figures ns g = all-figures (shapesFrom [] ns) ∙ sym (good-sound ns g .fi
 pub text-figures : (ns : List Node) → Good ns → (n : ℕ) → n < 15 + length ns → textFigures (textOf (textsOf ns) n) ≡ figuresAt (figuresFrom [] ns) n
 text-figures ns g zero l = empty-figures
 text-figures ns g (suc n) l =
-    let ss : List Shape = shapesFrom [] ns in
     let s : Sound ns (shapesFrom [] ns) = good-sound ns g in
     let e = as-many ns (shapesFrom [] ns) s in
     ap textFigures (text-is (shapesFrom [] ns) (suc n) (omega arith)) ∙ printed-figures (shapeAt (shapesFrom [] ns) (suc n))

@@ -2,3 +2,4 @@ pub mod Plain
 pub mod Nodes
 pub mod Makers
 pub mod Agree
+pub mod Rows
