@@ -197,8 +197,11 @@ text-is ss n p = ap (λ (z : List Text). getD z n []) (known-is ss) ∙ by n p
     by zero p = absurd (omega arith)
     by (suc n) p = getD-map printed (basics ++ ss) n byte [] (omega (arith, basics-long ss)) ∙ ap (λ (k : ℕ). printed (getD (basics ++ ss) k byte)) (omega arith)
 
-not-empty : (s : Shape) → sameText [] (printed s) ≡ false
+pub not-empty : (s : Shape) → sameText [] (printed s) ≡ false
 not-empty s = let h = head s in rw (h .text)
+
+pub empty-not : (s : Shape) → sameText (printed s) [] ≡ false
+empty-not s = let h = head s in rw (h .text)
 
 pub number-is : (ss : List Shape) → Distinct (basics ++ ss) → (n : ℕ) (s : Shape) → Part (length ss) n → shapeAt ss n ≡ s → numberOf (map printed ss) (printed s) ≡ n
 number-is ss d n s p e =

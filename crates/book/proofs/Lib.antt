@@ -9,3 +9,4 @@ pub mod Agree
 pub mod MakersAgree
 pub mod TextFigures
 pub mod Rows
+pub mod Questions

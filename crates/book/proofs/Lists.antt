@@ -311,3 +311,9 @@ map2 R f g h [] [] a = refl
 map2 R f g h [] (u ∷ us) a = absurd a
 map2 R f g h (x ∷ xs) [] a = absurd a
 map2 R f g h (x ∷ xs) (u ∷ us) a = ap₂ _∷_ (h x u (a .0)) (map2 R f g h xs us (a .1))
+
+pub getD2 : {A B : Type 0} (R : A → B → Type 0) (xs : List A) (us : List B) (i : ℕ) (d : A) (e : B) → i < length xs → All2 R xs us → R (getD xs i d) (getD us i e)
+getD2 R [] us i d e l a = absurd (omega arith)
+getD2 R (x ∷ xs) [] i d e l a = absurd a
+getD2 R (x ∷ xs) (u ∷ us) zero d e l a = a .0
+getD2 R (x ∷ xs) (u ∷ us) (suc i) d e l a = getD2 R xs us i d e (omega arith) (a .1)

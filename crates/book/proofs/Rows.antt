@@ -25,7 +25,7 @@ use Rattle.book.proofs.Agree.{good-sound}
 
 module _ (ns : List Node) (ss : List Shape) (g : Sound ns ss) where
   -- a number's text has that number
-  number-at : (n : ℕ) → Part (length ss) n → numberOf (map printed ss) (printed (shapeAt ss n)) ≡ n
+  pub number-at : (n : ℕ) → Part (length ss) n → numberOf (map printed ss) (printed (shapeAt ss n)) ≡ n
   number-at n p = number-is ss (g .apart) n (shapeAt ss n) p refl
 
   tail-number : (t : List ℕ) (u : List Text) → All2 (Num ss) t u → textTailNumber (tailsOf (map printed ss)) u ≡ tailNumber (Nodes.tailsOf ns) t

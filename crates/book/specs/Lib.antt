@@ -3,3 +3,4 @@ pub mod Nodes
 pub mod Makers
 pub mod Agree
 pub mod Rows
+pub mod Questions
