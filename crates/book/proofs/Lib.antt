@@ -10,3 +10,6 @@ pub mod MakersAgree
 pub mod TextFigures
 pub mod Rows
 pub mod Questions
+pub mod Within
+pub mod Backed
+pub mod Histories

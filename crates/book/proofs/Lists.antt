@@ -317,3 +317,8 @@ getD2 R [] us i d e l a = absurd (omega arith)
 getD2 R (x ∷ xs) [] i d e l a = absurd a
 getD2 R (x ∷ xs) (u ∷ us) zero d e l a = a .0
 getD2 R (x ∷ xs) (u ∷ us) (suc i) d e l a = getD2 R xs us i d e (omega arith) (a .1)
+
+pub map-in : {A B : Type 0} (f : A → B) (y : B) (xs : List A) → In y (map f xs) → (x : A) × In x xs × (f x ≡ y)
+map-in f y [] i = absurd i
+map-in f y (x ∷ xs) (inl e) = (x, inl refl, e)
+map-in f y (x ∷ xs) (inr i) = let p = map-in f y xs i in (p .0, inr (p .1), p .2)

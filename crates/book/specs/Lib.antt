@@ -4,3 +4,4 @@ pub mod Makers
 pub mod Agree
 pub mod Rows
 pub mod Questions
+pub mod History
