@@ -1,17 +1,15 @@
 -- A book whose parts stand before their wholes, and that holds nothing twice, stands for different texts.
-use mathlib.Core.Path.{_≡_, refl, sym, ap, subst, _∙_}
+use mathlib.Core.Path.{refl, sym, ap, subst, _∙_}
 use mathlib.Core.List.{List, [], _∷_, _++_, map, append-assoc, append-nil}
-use mathlib.Core.Logic.{_⊎_, inl, inr}
-use Prim.Native.Nat.{ℕ, _+_}
+use mathlib.Core.Logic.{inl, inr}
+use Prim.Native.Nat.{ℕ}
 use lib.ListN.{length}
 use Rattle.std.proofs.shelf.Lists.{length-push}
 use Rattle.grammar.specs.Lists.{In, Distinct}
 use Rattle.grammar.specs.Shape.{Shape}
-use Rattle.grammar.specs.Shape.{Text, printed}
-use Rattle.book.specs.Plain.{Limits, Call, call}
-use Rattle.book.specs.Agree.{Good, Agrees, Each-call-agrees}
-use Rattle.book.specs.Nodes.{Node, nodeShape, shapesFrom, Known, Chain, textsOf}
-use Rattle.book.specs.Nodes
+use Rattle.grammar.specs.Shape.{printed}
+use Rattle.book.specs.Agree.{Good, Each-call-agrees}
+use Rattle.book.specs.Nodes.{Node, nodeShape, shapesFrom, Chain}
 use Rattle.book.proofs.Calls.{simulates}
 use Rattle.book.proofs.Lists.{in-right}
 use Rattle.book.proofs.Sound.{Sound, pushed, start}

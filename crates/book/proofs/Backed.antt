@@ -1,5 +1,5 @@
 -- The plain book, where a book over numbers stands for it: what is there stays, and a number keeps its text.
-use mathlib.Core.Path.{_≡_, refl, sym, ap, subst, _∙_}
+use mathlib.Core.Path.{_≡_, sym, ap, subst, _∙_}
 use mathlib.Core.List.{List, [], _∷_, _++_, map, append-assoc, append-nil}
 use mathlib.Core.Logic.{_⊎_, inl, inr}
 use Prim.Native.Nat.{ℕ, _<_}
@@ -15,7 +15,7 @@ use Rattle.book.proofs.Lists.{in-left, place-in, add-all-longer, map-in}
 use Rattle.book.proofs.NodeShapes.{same-texts}
 use Rattle.book.proofs.Sound.{Sound}
 use Rattle.book.proofs.Interned.{known-is}
-use Rattle.book.proofs.Calls.{Step, simulates, Left, Taken, told}
+use Rattle.book.proofs.Calls.{simulates, Left, Taken, told}
 
 -- a list of texts that a book over numbers stands for
 pub record Backed (b : List Text) : Type 0 where

@@ -4,14 +4,13 @@ use mathlib.Core.List.{List, [], _∷_, _++_, map, append-assoc, append-nil, map
 use mathlib.Core.Bool.{Bool, true, false, cond, true≢false}
 use mathlib.Core.Option.{Option, none, some}
 use mathlib.Core.Logic.{_⊎_, inl, inr}
-use Prim.Native.Nat.{ℕ, zero, suc, _+_, _-_, _≤_, _<_}
+use Prim.Native.Nat.{ℕ, _+_, _-_}
 use native.Mathlib.Omega.{arith}
 use lib.Dec.{eqb, ltb}
-use lib.ListN.{length, getD, length-append, length-map}
-use Rattle.std.proofs.shelf.Tests.{cases-bool, ltb-false, eqb-false}
-use Rattle.grammar.specs.Lists.{In, sameList, has, place, add, addAll, tails}
-use Rattle.grammar.specs.Shape.{Text, Shape, Shapes, basic, nil, more, printed, printedAll}
-use Rattle.grammar.specs.Parts.{containers, containersAll}
+use lib.ListN.{length, length-map}
+use Rattle.std.proofs.shelf.Tests.{ltb-false, eqb-false}
+use Rattle.grammar.specs.Lists.{In, place, add, addAll}
+use Rattle.grammar.specs.Shape.{Text, Shape, Shapes, nil, more, printed, printedAll}
 use Rattle.grammar.specs.Shape
 use Rattle.grammar.specs.declared.figures.Figures.{Figures}
 use Rattle.grammar.specs.declared.error.Fault.{Fault}
@@ -19,17 +18,17 @@ use Rattle.grammar.specs.Scan.{fault}
 use Rattle.grammar.specs.Read.{reading, readAll}
 use Rattle.grammar.specs.Refusals.{accepted, refused}
 use Rattle.grammar.proofs.ScanExact.{scans-valid}
-use Rattle.book.specs.Plain.{Call, fromBytes, Answer, Limits, Refusing, Needed, sameText, known, textOf, numberOf, texts, enclosed, wholeText, parts, containersOf, grown, tailsOf, next, firstAt, at, by, longText, invalidText, emptyList, _else_, early, late, needed, answered, call, run}
+use Rattle.book.specs.Plain.{Call, fromBytes, Answer, Limits, Refusing, Needed, sameText, known, numberOf, texts, enclosed, wholeText, parts, containersOf, grown, tailsOf, next, firstAt, at, by, longText, invalidText, emptyList, _else_, early, late, needed, answered, call, run}
 use Rattle.book.specs.Plain
 use Rattle.book.specs.Agree.{Each-run-agrees}
 use Rattle.book.specs.Nodes.{Node, array, maybe, dict, structure, sameNode, enter, intern, sizeOf, nodeFigures, internText, sizeCall, basics, byte, shapeAt, shapesAt, nodeShape, Part, Parts, Known}
 use Rattle.book.specs.Nodes
 use Rattle.grammar.proofs.ReadBack.{reading-printed, readAll-printed, reading-empty}
-use Rattle.book.proofs.Lists.{in-getD, All, All2, add-all-old, add-all-append, long2}
-use Rattle.book.proofs.NodeShapes.{same-texts, Row, basics-long}
+use Rattle.book.proofs.Lists.{in-getD, All, add-all-old, add-all-append}
+use Rattle.book.proofs.NodeShapes.{same-texts, basics-long}
 use Rattle.book.proofs.Figured.{node-figures}
 use Rattle.book.proofs.Sound.{Sound, as-many, inner, inner-is, inner-in, in-map, start}
-use Rattle.book.proofs.Interned.{Made, entered, interned, text-is, number-is, known-is}
+use Rattle.book.proofs.Interned.{entered, interned, text-is, number-is, known-is}
 use Rattle.book.proofs.Tails.{tails-count}
 
 -- what the refusals that do not apply say

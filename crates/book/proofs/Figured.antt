@@ -1,21 +1,19 @@
 -- The figures of a container, worked out from those of its parts, are those of its shape.
 use mathlib.Core.Path.{_≡_, refl, sym, ap, ap₂, _∙_}
 use mathlib.Core.List.{List, [], _∷_, _++_, map}
-use mathlib.Core.Bool.{cond}
-use Prim.Native.Nat.{ℕ, zero, suc, _+_, _-_, _<_}
+use Prim.Native.Nat.{ℕ, zero, suc, _-_, _<_}
 use native.Mathlib.Omega.{arith}
 use native.Mathlib.Decide.{decLt}
-use lib.Dec.{ltb}
 use lib.ListN.{length, getD, length-append}
 use Rattle.std.proofs.shelf.Lists.{getD-append-left, getD-map}
 use Rattle.std.proofs.shelf.Tests.{lt-ltb, le-ltb}
 use Rattle.grammar.specs.declared.figures.Figures.{Figures}
-use Rattle.grammar.specs.Shape.{basicCodes, isBasic, Shape, Shapes, basic, nil, more, printed, printedAll}
+use Rattle.grammar.specs.Shape.{basicCodes, isBasic, Shape, Shapes, more, printed, printedAll}
 use Rattle.grammar.specs.Shape
 use Rattle.grammar.specs.Depth.{structureDepths, arrayDepths}
 use Rattle.grammar.specs.Figures.{figuresOf, gvariantAlignments, areFixed, holdMaybe}
-use Rattle.book.specs.Nodes.{Node, array, maybe, dict, structure, codeFigures, firstFigures, blankFigures, arrayFigures, maybeFigures, dictFigures, withField, structureFigures, figuresAt, fieldFigures, nodeFigures, figuresFrom, basics, byte, shapeAt, shapesAt, nodeShape, Part, Parts, Known}
-use Rattle.book.proofs.NodeShapes.{basics-long, basics-count, at-shape}
+use Rattle.book.specs.Nodes.{Node, array, maybe, dict, structure, codeFigures, blankFigures, arrayFigures, maybeFigures, dictFigures, withField, structureFigures, figuresAt, fieldFigures, nodeFigures, figuresFrom, basics, byte, shapeAt, shapesAt, nodeShape, Part, Parts, Known}
+use Rattle.book.proofs.NodeShapes.{basics-count, at-shape}
 
 basics-figures : map codeFigures basicCodes ≡ map figuresOf basics
 unfolding basics isBasic

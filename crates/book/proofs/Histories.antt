@@ -4,23 +4,23 @@ use mathlib.Core.List.{List, [], _∷_, _++_, map}
 use mathlib.Core.Bool.{Bool, true, false, _||_, true≢false}
 use mathlib.Core.Option.{Option, none, some}
 use mathlib.Core.Logic.{_⊎_, inl, inr}
-use Prim.Native.Nat.{ℕ, _+_, _≤_, _<_}
+use Prim.Native.Nat.{ℕ, _≤_, _<_}
 use native.Mathlib.Omega.{arith}
 use lib.Dec.{ltb}
 use lib.ListN.{length, length-append}
 use Rattle.std.proofs.shelf.Tests.{ltb-false}
 use Rattle.grammar.specs.Lists.{In, Distinct, sameList, addAll, tails}
-use Rattle.grammar.specs.Shape.{Text, basicCodes, Shape, Shapes, basic, array, maybe, dict, structure, printed}
+use Rattle.grammar.specs.Shape.{Text, basicCodes, Shape, basic, array, maybe, dict, structure, printed}
 use Rattle.grammar.specs.Parts.{containers, fields, Container, Within}
 use Rattle.grammar.specs.Read.{reading}
 use Rattle.grammar.specs.Refusals.{accepted, refused}
 use Rattle.grammar.proofs.ReadBack.{reading-printed, reading-empty, printed-inj}
 use Rattle.book.specs.Plain.{Call, Answer, Limits, Refusing, longestForm, sameText, single, known, textOf, numberOf, wholeText, containersOf, fieldsOf, grown, tailsFrom, tailsOf, when, _else_, early, late, needed, answered, call, run}
 use Rattle.book.specs.Nodes.{basics}
-use Rattle.book.specs.History.{Result, ContainerText, Tail, Facts, After-any-calls, OneMore, One-more-call}
-use Rattle.book.proofs.Lists.{Decides, same-lists, in-left, in-right, place-in, in-add-all, add-all-in, distinct-add-all, tail-in, in-tail, map-in}
+use Rattle.book.specs.History.{Result, ContainerText, Tail, After-any-calls, OneMore, One-more-call}
+use Rattle.book.proofs.Lists.{Decides, same-lists, place-in, in-add-all, add-all-in, distinct-add-all, tail-in, in-tail, map-in}
 use Rattle.book.proofs.NodeShapes.{same-texts}
-use Rattle.book.proofs.Sound.{Sound, start, in-map}
+use Rattle.book.proofs.Sound.{start, in-map}
 use Rattle.book.proofs.Interned.{known-is, empty-not}
 use Rattle.book.proofs.Within.{within, met}
 use Rattle.book.proofs.Calls.{Left, Taken}

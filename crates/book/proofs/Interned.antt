@@ -1,24 +1,24 @@
 -- What entering a container, or all of a tree, comes to.
 use mathlib.Core.Path.{_≡_, refl, sym, ap, ap₂, subst, _∙_}
 use mathlib.Core.List.{List, [], _∷_, _++_, map, append-assoc, append-nil, map-append}
-use mathlib.Core.Bool.{Bool, true, false, cond, true≢false}
+use mathlib.Core.Bool.{true, false, true≢false}
 use mathlib.Core.Logic.{_⊎_, inl, inr}
-use Prim.Native.Nat.{ℕ, zero, suc, _+_, _-_, _≤_, _<_}
+use Prim.Native.Nat.{ℕ, zero, suc, _+_, _-_, _<_}
 use native.Mathlib.Omega.{arith}
-use lib.Dec.{eqb, ltb}
+use lib.Dec.{eqb}
 use lib.ListN.{length, getD, length-append, length-map}
-use Rattle.std.proofs.shelf.Lists.{getD-append-left, map-push, length-push, getD-map, getD-append-right, getD-push}
+use Rattle.std.proofs.shelf.Lists.{getD-append-left, map-push, length-push, getD-map, getD-push}
 use Rattle.std.proofs.shelf.Tests.{cases-bool}
-use Rattle.grammar.specs.Lists.{In, Distinct, sameList, has, place, add, addAll, tails}
-use Rattle.grammar.specs.Shape.{Text, isBasic, basicCodes, Shape, Shapes, basic, nil, more, printed, printedAll}
+use Rattle.grammar.specs.Lists.{In, Distinct, has, place, add, addAll}
+use Rattle.grammar.specs.Shape.{Text, isBasic, basicCodes, Shape, Shapes, basic, nil, more, printed}
 use Rattle.grammar.specs.Parts.{containers, containersAll}
 use Rattle.grammar.specs.Shape
 use Rattle.book.specs.Plain.{sameText, single, known, numberOf, textOf}
-use Rattle.book.specs.Nodes.{Node, array, maybe, dict, structure, code, sameNode, enter, intern, internAll, basics, byte, shapeAt, shapesAt, nodeShape, Part, Parts, Known}
+use Rattle.book.specs.Nodes.{Node, array, maybe, dict, structure, sameNode, enter, intern, internAll, basics, byte, shapeAt, shapesAt, nodeShape, Part, Parts, Known}
 use Rattle.grammar.proofs.ReadBack.{printed-inj, head}
-use Rattle.book.proofs.Lists.{Decides, numbers, All, All2, in-getD, has-in, in-has, not-in, in-not, add-old, add-new, add-all-append, add-all-old, place-in, place-out, place-at, has2, place2, long2, distinct-at}
-use Rattle.book.proofs.NodeShapes.{same-texts, same-nodes, Num, Row, keep-node, basics-long, basics-count, at-more, at-shape}
-use Rattle.book.proofs.Sound.{Sound, as-many, row, text-in, in-text, fresh, pushed, in-map, inner, inner-is, inner-in, closed-at}
+use Rattle.book.proofs.Lists.{numbers, in-getD, has-in, in-has, not-in, add-old, add-new, add-all-append, place-in, place-out, has2, place2, distinct-at}
+use Rattle.book.proofs.NodeShapes.{same-texts, same-nodes, Row, keep-node, basics-long, basics-count, at-more, at-shape}
+use Rattle.book.proofs.Sound.{Sound, as-many, row, in-text, pushed, in-map}
 
 pub record Made (ss : List Shape) (s : Shape) (after : List Text) (r : ℕ × List Node) : Type 0 where
   pub new : List Shape

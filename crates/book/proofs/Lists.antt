@@ -1,13 +1,13 @@
 -- Lists without repetition.
 use mathlib.Core.Path.{_≡_, refl, sym, ap, ap₂, subst, _∙_}
-use mathlib.Core.List.{List, [], _∷_, _++_, map, append-assoc, append-nil, map-append}
+use mathlib.Core.List.{List, [], _∷_, _++_, map, append-assoc, append-nil}
 use mathlib.Core.Bool.{Bool, true, false, cond, _&&_, _||_, true≢false}
 use mathlib.Core.Logic.{_⊎_, inl, inr}
-use Prim.Native.Nat.{ℕ, zero, suc, _+_, _-_, _≤_, _<_}
+use Prim.Native.Nat.{ℕ, zero, suc, _<_}
 use native.Mathlib.Omega.{arith}
-use lib.Dec.{eqb, ltb}
-use lib.ListN.{length, getD, length-append, length-map}
-use Rattle.std.proofs.shelf.Tests.{ne-eqb, eq-eqb, eqb-true, or-cases, or-left, or-right, and-parts, cases-bool, and-from}
+use lib.Dec.{eqb}
+use lib.ListN.{length, getD}
+use Rattle.std.proofs.shelf.Tests.{eq-eqb, eqb-true, or-cases, or-left, or-right, and-parts, cases-bool, and-from}
 use Rattle.grammar.specs.Lists.{In, Distinct, sameList, has, place, add, addAll, tails}
 
 pub record Decides {A : Type 0} (same : A → A → Bool) : Type 0 where

@@ -1,26 +1,25 @@
 -- The makers, test by test, make the calls of the book over numbers.
-use mathlib.Core.Path.{_≡_, refl, sym, ap, ap₂, subst, _∙_}
-use mathlib.Core.List.{List, [], _∷_, _++_, map, append-assoc, append-nil}
-use mathlib.Core.Bool.{Bool, true, false, cond, _||_, not, true≢false}
-use mathlib.Core.Option.{Option, none, some}
+use mathlib.Core.Path.{_≡_, refl, sym, ap, subst, _∙_}
+use mathlib.Core.List.{List, [], _∷_, _++_}
+use mathlib.Core.Bool.{Bool, true, false, cond, _||_}
+use mathlib.Core.Option.{none, some}
 use mathlib.Core.Logic.{_⊎_, inl, inr}
 use Prim.Native.Nat.{ℕ, _+_, _≤_, _<_}
 use native.Mathlib.Omega.{arith}
 use native.Mathlib.Decide.{decLt}
 use lib.Dec.{eqb, ltb}
-use lib.ListN.{length, length-append}
+use lib.ListN.{length}
 use Rattle.std.proofs.shelf.Lists.{length-push}
-use Rattle.std.proofs.shelf.Tests.{cases-bool, ltb-true, ltb-false, lt-ltb, le-ltb, or-right, ne-eqb}
+use Rattle.std.proofs.shelf.Tests.{cases-bool, ltb-false, lt-ltb, le-ltb, or-right, ne-eqb}
 use Rattle.grammar.specs.Lists.{In, sameList, has, place, add, addAll, tails}
-use Rattle.grammar.specs.Shape.{Text}
-use Rattle.book.specs.Plain.{Call, Answer, Limits, Needed, Refusing, longestForm, early, late, _else_, at, firstAt, next, when, emptyList}
+use Rattle.book.specs.Plain.{Call, Answer, Limits, Refusing, longestForm, early, late, _else_, firstAt, when, emptyList}
 use Rattle.grammar.specs.Refusals.{accepted, refused}
 use Rattle.book.specs.Plain
 use Rattle.book.specs.Agree.{Room}
 use Rattle.book.specs.Nodes.{Node, array, maybe, dict, structure, sameNode, enter, sizeOf, fieldsOf, tailsFrom, tailsOf, answered, call}
 use Rattle.book.specs.Nodes
 use Rattle.book.specs.Makers
-use Rattle.book.proofs.Lists.{numbers, same-lists, has-in, not-in, add-old, add-new, add-all-old, add-all-append, add-all-in, add-all-longer, place-in, place-out, in-left}
+use Rattle.book.proofs.Lists.{numbers, same-lists, has-in, not-in, add-old, add-new, add-all-old, add-all-append, add-all-in, place-in, place-out}
 use Rattle.book.proofs.NodeShapes.{same-nodes}
 
 -- the tails of one list of nodes and then of another

@@ -1,23 +1,20 @@
 -- The shapes of numbers and of nodes: each number has its own, and keeps it as the book grows.
-use mathlib.Core.Path.{_≡_, refl, sym, ap, ap₂, subst, _∙_}
-use mathlib.Core.List.{List, [], _∷_, _++_, map, append-assoc, append-nil, map-append}
-use mathlib.Core.Bool.{Bool, true, false, cond, true≢false, not, _&&_}
-use mathlib.Core.Logic.{_⊎_, inl, inr}
-use Prim.Native.Nat.{ℕ, zero, suc, _+_, _-_, _≤_, _<_}
+use mathlib.Core.Path.{_≡_, refl, sym, ap, ap₂, _∙_}
+use mathlib.Core.List.{List, [], _∷_, _++_, append-assoc}
+use mathlib.Core.Bool.{Bool, true, false}
+use Prim.Native.Nat.{ℕ, _+_, _-_, _≤_}
 use native.Mathlib.Omega.{arith}
-use native.Mathlib.Decide.{decLt}
-use lib.Dec.{eqb, ltb}
-use lib.ListN.{length, getD, length-append, length-map}
-use Rattle.std.proofs.shelf.Lists.{getD-append-left, map-push, length-push, getD-map, getD-append-right}
-use Rattle.std.proofs.shelf.Tests.{lt-ltb, le-ltb, cases-bool, eq-eqb, and-parts}
-use Rattle.grammar.specs.Lists.{In, Distinct, sameList, has, place, add, addAll, tails}
-use Rattle.grammar.specs.Shape.{Text, isBasic, basicCodes, Shape, Shapes, basic, nil, more, printed, printedAll}
-use Rattle.grammar.specs.Parts.{containers, containersAll}
+use lib.Dec.{eqb}
+use lib.ListN.{length, getD, length-append}
+use Rattle.std.proofs.shelf.Lists.{getD-append-left, getD-append-right}
+use Rattle.std.proofs.shelf.Tests.{eq-eqb}
+use Rattle.grammar.specs.Lists.{Distinct}
+use Rattle.grammar.specs.Shape.{Text, isBasic, Shape, more, printed}
 use Rattle.grammar.specs.Shape
 use Rattle.book.specs.Plain.{sameText}
-use Rattle.book.specs.Nodes.{Node, array, maybe, dict, structure, code, sameNode, basics, byte, shapeAt, shapesAt, nodeShape, Part, Parts, Known, Chain, shapesFrom}
+use Rattle.book.specs.Nodes.{Node, array, maybe, dict, structure, code, sameNode, basics, byte, shapeAt, shapesAt, nodeShape, Part, Parts, Known}
 use Rattle.grammar.proofs.ReadBack.{printed-inj}
-use Rattle.book.proofs.Lists.{Decides, numbers, same-lists, All, All2, all-in, in-left, in-right, in-split, in-getD, distinct-push, distinct-at, has-in, in-has, not-in, in-not, add-old, add-new, place-in, place-out, place-at, has2, place2, push2, long2, weaken2}
+use Rattle.book.proofs.Lists.{Decides, numbers, same-lists, distinct-at}
 
 pub same-texts : Decides sameText
 same-texts = same-lists numbers

@@ -1,9 +1,9 @@
 -- The questions, answered from the texts and from the nodes, have the same answers.
-use mathlib.Core.Path.{_≡_, refl, sym, ap, ap₂, _∙_}
-use mathlib.Core.List.{List, [], _∷_, _++_, map}
+use mathlib.Core.Path.{_≡_, refl, sym, ap, _∙_}
+use mathlib.Core.List.{List, [], _∷_, map}
 use mathlib.Core.Bool.{Bool, true, false, cond}
 use mathlib.Core.Option.{Option, none, some}
-use Prim.Native.Nat.{ℕ, zero, suc, _+_, _-_, _≤_, _<_, max}
+use Prim.Native.Nat.{ℕ, zero, suc, _+_, _-_, _≤_, _<_}
 use native.Mathlib.Omega.{arith}
 use native.Mathlib.Decide.{decLt}
 use lib.Dec.{eqb, ltb}
@@ -11,26 +11,25 @@ use lib.ListN.{length, getD, length-map}
 use lib.Chars.{codes}
 use Rattle.std.proofs.shelf.Lists.{getD-append-left, getD-map, getD-default}
 use Rattle.std.proofs.shelf.Tests.{lt-ltb, le-ltb, ne-eqb}
-use Rattle.std.specs.declared.option.Option.{Option as Optional}
-use Rattle.std.specs.declared.option.Option.the-variants.{Some, None}
+use Rattle.std.specs.declared.option.Option.the-variants.{Some}
 use Rattle.grammar.specs.declared.figures.Figures.{Figures}
 use Rattle.grammar.specs.Lists.{has}
-use Rattle.grammar.specs.Shape.{Text, isBasic, Shape, Shapes, basic, nil, more, printed}
+use Rattle.grammar.specs.Shape.{Text, isBasic, Shape, basic, printed}
 use Rattle.grammar.specs.Shape
 use Rattle.grammar.specs.Parts.{fields}
-use Rattle.grammar.specs.Figures.{gvariantOfCode, gvariantAlignment, gvariantAlignments, textFigures}
+use Rattle.grammar.specs.Figures.{gvariantOfCode, gvariantAlignment, textFigures}
 use Rattle.grammar.specs.Read.{reading}
 use Rattle.grammar.specs.Refusals.{Outcome, accepted, refused}
 use Rattle.grammar.proofs.ReadBack.{reading-printed, reading-empty}
 use Rattle.book.specs.Plain.{sameText, textOf, numberOf}
-use Rattle.book.specs.Nodes.{Node, array, maybe, dict, structure, figuresFrom, figuresAt, basics, byte, shapesFrom, shapeAt, shapesAt, nodeShape, Part, Known, textsOf}
+use Rattle.book.specs.Nodes.{Node, array, maybe, dict, structure, figuresFrom, figuresAt, basics, byte, shapesFrom, shapeAt, nodeShape, Part, Known, textsOf}
 use Rattle.book.specs.Agree.{Good}
 use Rattle.book.specs.Questions.{ifKnown, childBy, keyBy, valueBy, fieldsBy, numberAt, childOf, keyOf, valueOf, lenOf, getOf, figureOf, Format, alignmentIn, alignment, alignmentOf, equalOf, nodeAnswer, nodeChild, nodeDictKey, nodeDictValue, nodeFields, itemAt, nodeLen, nodeGet, figureAnswer, alignmentAnswer, equalAnswer}
 use Rattle.book.proofs.Lists.{All, All2, all-in, in-getD, long2, getD2}
 use Rattle.book.proofs.NodeShapes.{Num, Row, keep-num, basics-count, at-shape}
 use Rattle.book.proofs.Figured.{shape-figures}
 use Rattle.book.proofs.Sound.{Sound, as-many}
-use Rattle.book.proofs.Interned.{text-is, number-is, not-empty, empty-not}
+use Rattle.book.proofs.Interned.{text-is, not-empty, empty-not}
 use Rattle.book.proofs.Tails.{node-fields}
 use Rattle.book.proofs.TextFigures.{text-figures}
 use Rattle.book.proofs.Rows.{number-at}

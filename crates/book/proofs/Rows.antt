@@ -1,18 +1,17 @@
 -- The keys of the rows, from the texts and from the nodes, are the same.
 use mathlib.Core.Path.{_≡_, refl, sym, ap, ap₂, _∙_}
-use mathlib.Core.List.{List, [], _∷_, _++_, map}
-use mathlib.Core.Option.{Option, some}
+use mathlib.Core.List.{List, [], _∷_, map}
+use mathlib.Core.Option.{some}
 use Prim.Native.Nat.{ℕ, _+_}
 use lib.Dec.{eqb}
 use lib.ListN.{length}
-use Rattle.grammar.specs.Lists.{sameList, place}
+use Rattle.grammar.specs.Lists.{sameList}
 use Rattle.grammar.specs.Shape.{Text, Shape, printed}
-use Rattle.grammar.specs.Shape
 use Rattle.grammar.specs.Parts.{fields}
 use Rattle.grammar.specs.Read.{reading}
 use Rattle.grammar.proofs.ReadBack.{reading-printed}
 use Rattle.book.specs.Plain.{sameText, numberOf, tailsOf}
-use Rattle.book.specs.Nodes.{Node, array, maybe, dict, structure, shapesFrom, shapeAt, shapesAt, nodeShape, Part, Known, textsOf}
+use Rattle.book.specs.Nodes.{Node, array, maybe, dict, structure, shapesFrom, shapeAt, nodeShape, Part, Known, textsOf}
 use Rattle.book.specs.Nodes
 use Rattle.book.specs.Agree.{Good}
 use Rattle.book.specs.Rows.{textTailNumber, tailNumber, shapeKey, typeKeyOf, fieldKeyOf, nodeKey, tailKey}
@@ -20,7 +19,7 @@ use Rattle.book.proofs.Lists.{All2, place2, long2, sameList2, map2}
 use Rattle.book.proofs.NodeShapes.{Num, Row, keep-num}
 use Rattle.book.proofs.Sound.{Sound}
 use Rattle.book.proofs.Interned.{number-is}
-use Rattle.book.proofs.Tails.{nums, node-fields, tails-related}
+use Rattle.book.proofs.Tails.{node-fields, tails-related}
 use Rattle.book.proofs.Agree.{good-sound}
 
 module _ (ns : List Node) (ss : List Shape) (g : Sound ns ss) where

@@ -1,25 +1,22 @@
 -- A book over numbers, and the shapes that it stands for.
-use mathlib.Core.Path.{_≡_, refl, sym, ap, ap₂, subst, _∙_}
-use mathlib.Core.List.{List, [], _∷_, _++_, map, append-assoc, append-nil, map-append}
-use mathlib.Core.Bool.{Bool, true, false, cond, true≢false, not, _&&_}
+use mathlib.Core.Path.{_≡_, refl, sym, ap, subst, _∙_}
+use mathlib.Core.List.{List, [], _∷_, _++_, map, append-assoc, append-nil}
+use mathlib.Core.Bool.{Bool, true, true≢false, not, _&&_}
 use mathlib.Core.Logic.{_⊎_, inl, inr}
-use Prim.Native.Nat.{ℕ, zero, suc, _+_, _-_, _≤_, _<_}
+use Prim.Native.Nat.{ℕ, suc, _+_, _-_}
 use native.Mathlib.Omega.{arith}
-use native.Mathlib.Decide.{decLt}
-use lib.Dec.{eqb, ltb}
-use lib.ListN.{length, getD, length-append, length-map}
-use Rattle.std.proofs.shelf.Lists.{getD-append-left, map-push, length-push, getD-map, getD-append-right}
-use Rattle.std.proofs.shelf.Tests.{lt-ltb, le-ltb, cases-bool, eq-eqb, and-parts}
-use Rattle.grammar.specs.Lists.{In, Distinct, sameList, has, place, add, addAll, tails}
-use Rattle.grammar.specs.Shape.{Text, isBasic, basicCodes, Shape, Shapes, basic, nil, more, printed, printedAll}
+use lib.ListN.{length, length-map}
+use Rattle.std.proofs.shelf.Lists.{map-push}
+use Rattle.std.proofs.shelf.Tests.{and-parts}
+use Rattle.grammar.specs.Lists.{In, Distinct, has}
+use Rattle.grammar.specs.Shape.{Text, isBasic, Shape, basic, printed}
 use Rattle.grammar.specs.Parts.{containers, containersAll}
 use Rattle.grammar.specs.Shape
 use Rattle.book.specs.Plain.{sameText}
-use Rattle.book.specs.Nodes.{Node, array, maybe, dict, structure, code, sameNode, basics, byte, shapeAt, shapesAt, nodeShape, Part, Parts, Known, Chain, shapesFrom, figuresFrom}
+use Rattle.book.specs.Nodes.{Node, array, maybe, dict, structure, sameNode, basics, byte, shapeAt, shapesAt, nodeShape, Part, Parts, Known, Chain, shapesFrom, figuresFrom}
 use Rattle.grammar.specs.Figures.{figuresOf}
-use Rattle.grammar.proofs.ReadBack.{printed-inj}
-use Rattle.book.proofs.Lists.{Decides, numbers, same-lists, All, All2, all-in, in-left, in-right, in-split, in-getD, distinct-push, distinct-at, has-in, in-has, not-in, in-not, add-old, add-new, place-in, place-out, place-at, has2, place2, push2, long2, weaken2}
-use Rattle.book.proofs.NodeShapes.{same-texts, Num, Row, bool-same, basics-long, at-inj, node-inj, keep-num, code-inj, same-nodes, keep-node, known-more, at-more, row-more}
+use Rattle.book.proofs.Lists.{All, All2, all-in, in-left, in-right, in-split, in-getD, distinct-push, has-in, in-has, has2, push2, long2, weaken2}
+use Rattle.book.proofs.NodeShapes.{same-texts, Row, basics-long, same-nodes, keep-node, known-more, row-more}
 use Rattle.book.proofs.Figured.{node-figures, figures-push}
 
 -- What a book over numbers keeps, where ss are its shapes.

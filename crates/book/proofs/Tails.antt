@@ -1,17 +1,15 @@
 -- Tails of numbers are tails of texts, one for one.
-use mathlib.Core.Path.{_≡_, refl, sym, ap, ap₂, subst, _∙_}
+use mathlib.Core.Path.{_≡_, refl}
 use mathlib.Core.List.{List, [], _∷_, _++_, map}
-use mathlib.Core.Bool.{Bool, true, false}
-use mathlib.Core.Option.{Option, none, some}
-use Prim.Native.Nat.{ℕ, _<_}
+use Prim.Native.Nat.{ℕ}
 use lib.Dec.{eqb}
-use lib.ListN.{length, getD}
-use Rattle.grammar.specs.Lists.{In, Distinct, sameList, has, place, add, addAll, tails}
-use Rattle.grammar.specs.Shape.{Text, Shape, Shapes, basic, nil, more, printed}
+use lib.ListN.{length}
+use Rattle.grammar.specs.Lists.{Distinct, sameList, addAll, tails}
+use Rattle.grammar.specs.Shape.{Text, Shape, printed}
 use Rattle.grammar.specs.Parts.{listed, fields}
 use Rattle.grammar.specs.Read.{reading}
 use Rattle.book.specs.Plain.{sameText, fieldsOf, tailsFrom, tailsOf}
-use Rattle.book.specs.Nodes.{Node, array, maybe, dict, structure, basics, shapeAt, shapesAt, nodeShape, Part, Parts, Known}
+use Rattle.book.specs.Nodes.{Node, array, maybe, dict, structure, basics, shapesAt, nodeShape, Parts, Known}
 use Rattle.book.specs.Nodes
 use Rattle.grammar.proofs.ReadBack.{reading-printed}
 use Rattle.book.proofs.Lists.{All2, addAll2, long2, tails2, sameList2}

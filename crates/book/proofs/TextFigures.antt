@@ -5,9 +5,8 @@ use Prim.Native.Nat.{ℕ, zero, suc, _+_, _<_}
 use native.Mathlib.Omega.{arith}
 use lib.ListN.{length}
 use Rattle.grammar.specs.declared.figures.Figures.{Figures}
-use Rattle.grammar.specs.Shape.{Text, Shape, printed}
+use Rattle.grammar.specs.Shape.{Shape, printed}
 use Rattle.grammar.specs.Figures.{figuresOf, unitFigures, figuresBy, textFigures}
-use Rattle.grammar.specs.Read.{reading}
 use Rattle.grammar.proofs.ReadBack.{reading-printed, reading-empty}
 use Rattle.book.specs.Plain.{textOf}
 use Rattle.book.specs.Nodes.{Node, figuresFrom, figuresAt, shapesFrom, shapeAt, textsOf}

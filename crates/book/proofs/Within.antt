@@ -1,5 +1,5 @@
 -- The containers listed of a type are those that stand in it.
-use mathlib.Core.Path.{_≡_, refl, subst}
+use mathlib.Core.Path.{refl, subst}
 use mathlib.Core.List.{List, [], _∷_, _++_, append-assoc}
 use mathlib.Core.Logic.{_⊎_, inl, inr}
 use Rattle.grammar.specs.Lists.{In}
