@@ -6,8 +6,7 @@ use Prim.Native.Nat.{ℕ}
 use lib.ListN.{length}
 use Rattle.std.proofs.shelf.Lists.{length-push}
 use Rattle.grammar.specs.Lists.{In, Distinct}
-use Rattle.grammar.specs.Shape.{Shape}
-use Rattle.grammar.specs.Shape.{printed}
+use Rattle.grammar.specs.Shape.{Shape, printed}
 use Rattle.book.specs.Agree.{Good, Each-call-agrees}
 use Rattle.book.specs.Nodes.{Node, nodeShape, shapesFrom, Chain}
 use Rattle.book.proofs.Calls.{simulates}

@@ -1,4 +1,4 @@
--- A call of the book over numbers answers as the basic book does.
+-- A call of the book over numbers answers as the plain book does.
 use mathlib.Core.Path.{_≡_, refl, sym, ap, ap₂, subst, _∙_}
 use mathlib.Core.List.{List, [], _∷_, _++_, map, append-assoc, append-nil, map-append}
 use mathlib.Core.Bool.{Bool, true, false, cond, true≢false}
@@ -87,7 +87,6 @@ pub record Same (ns : List Node) (ss : List Shape) (r : ℕ × List Node) (size 
 grown-node : (ns : List Node) (ss : List Shape) → Sound ns ss → (x : Node) → Known (length ss) x
     → grown (map printed ss) (printed (nodeShape ss x)) ≡ add sameText (map printed ss) (printed (nodeShape ss x))
 grown-node ns ss g x k =
-    let s : Shape = nodeShape ss x in
     ap (λ (o : Option Shape). addAll sameText (map printed ss) (containersOf o)) (reading-printed (nodeShape ss x))
     ∙ ap (λ (z : List Shape). addAll sameText (map printed ss) (map printed z)) (inner-is ss x k)
     ∙ ap (addAll sameText (map printed ss)) (map-append printed (inner (nodeShape ss x)) (nodeShape ss x ∷ []))
@@ -174,9 +173,6 @@ pub simulates : (limits : Limits) (ns : List Node) (ss : List Shape) → Sound n
 unfolding Nodes.call call
 simulates limits ns ss g c = go (early c (length ns)) refl
   where
-    w : Text
-    w = wholeText (map printed ss) c
-
     l : length ns ≡ length (map printed ss)
     l = longs ns ss g
 
@@ -194,7 +190,7 @@ simulates limits ns ss g c = go (early c (length ns)) refl
         end m (some e) = record { new = ss; sound = g; texts = refl; answer = refl }
         end m none = record { new = m .new; sound = m .sound; texts = m .texts; answer = ap accepted (m .answer ∙ ap (λ (z : List Text). numberOf z (wholeText (map printed ss) c)) (m .texts)) }
 
--- What the basic book does, where a book over numbers stands for it.
+-- What the plain book does, where a book over numbers stands for it.
 pub record Taken (b : List Text) (w : Text) (r : Answer × List Text) : Type 0 where
   pub book : r .1 ≡ grown b w
   pub answer : r .0 ≡ accepted (numberOf (grown b w) w)
@@ -211,9 +207,6 @@ pub told : (limits : Limits) (ns : List Node) (ss : List Shape) → Sound ns ss 
 unfolding call
 told limits ns ss g c = go (early c (length (map printed ss))) refl
   where
-    b : List Text
-    b = map printed ss
-
     go : (o : Refusing) → early c (length (map printed ss)) ≡ o
         → Left (map printed ss) (answered (map printed ss) (wholeText (map printed ss) c) (early c (length (map printed ss)) else late limits (needed (map printed ss) (wholeText (map printed ss) c))))
         ⊎ Taken (map printed ss) (wholeText (map printed ss) c) (answered (map printed ss) (wholeText (map printed ss) c) (early c (length (map printed ss)) else late limits (needed (map printed ss) (wholeText (map printed ss) c))))

@@ -80,9 +80,6 @@ module _ (limits : Limits) where
   every b k [] w r = absurd (r .result .given)
   every b k (c ∷ cs) w r = go (every (call limits b c .1) (done limits b k c .1) cs w) (r .result .given) (done limits b k c .0)
     where
-      n : ℕ
-      n = r .result .number
-
       go : (Held (call limits b c .1) cs w → In w (run limits (call limits b c .1) cs .1))
           → (call limits b c .0 ≡ accepted (r .result .number)) ⊎ In (accepted (r .result .number)) (run limits (call limits b c .1) cs .0)
           → Left b (call limits b c) ⊎ Taken b (wholeText b c) (call limits b c) → In w (run limits b (c ∷ cs) .1)
@@ -186,7 +183,6 @@ with-fields (structure s ts) before t e n = tt
 
 of-tail : (answers : List Answer) (b : List Text) → ((w : Text) → ContainerText answers b w → In w b) → (t : List Text) → Tail answers b t → In t (tailsOf b)
 of-tail answers b h t r =
-    let s : Shape = r .shape in
     let i : In (printed (r .shape)) b = h (printed (r .shape)) (record { shape = r .shape; result = r .result; container = with-fields (r .shape) (r .before) t (r .list) (r .filled); text = refl }) in
     tails-every [] b t (map printed (fields (r .shape))) (printed (r .shape)) i (sym (ap fieldsOf (reading-printed (r .shape)))) (in-tail (map printed (fields (r .shape))) t (r .before) (r .list) (r .filled))
 
@@ -198,9 +194,6 @@ fits-call : (limits : Limits) (b : List Text) → Fits limits b → (c : Call) �
 unfolding call
 fits-call limits b room c = go (early c (length b))
   where
-    g : List Text
-    g = grown b (wholeText b c)
-
     end : (o p q : Bool) → ltb (limits .types) (length (grown b (wholeText b c))) ≡ p → ltb (limits .fields) (length (tailsOf (grown b (wholeText b c)))) ≡ q
         → Fits limits (answered b (wholeText b c) ((when o 7) else (when (p || q) 8)) .1)
     end true p q e f = room

@@ -33,9 +33,6 @@ pub entered : (ns : List Node) (ss : List Shape) → Sound ns ss → (x : Node) 
     → Made ss (nodeShape ss x) (add sameText (map printed ss) (printed (nodeShape ss x))) (enter ns x)
 entered ns ss g x k = go (cases-bool (has sameNode ns x))
   where
-    s : Shape
-    s = nodeShape ss x
-
     same : place sameNode ns x ≡ place sameText (map printed ss) (printed (nodeShape ss x))
     same = place2 sameNode sameText (Row ss) (keep-node ss (g .apart)) ns (map printed ss) x (printed (nodeShape ss x)) (g .each) (row ns ss g x k)
 
@@ -205,7 +202,6 @@ empty-not s = let h = head s in rw (h .text)
 
 pub number-is : (ss : List Shape) → Distinct (basics ++ ss) → (n : ℕ) (s : Shape) → Part (length ss) n → shapeAt ss n ≡ s → numberOf (map printed ss) (printed s) ≡ n
 number-is ss d n s p e =
-    let L : List Shape = basics ++ ss in
     let l = basics-long ss in
     let i : In s (basics ++ ss) = subst (λ (z : Shape). In z (basics ++ ss)) e (in-getD (basics ++ ss) (n - 1) byte (omega arith)) in
     let q = place-in same-texts (map printed (basics ++ ss)) (printed s) [] (in-map printed s (basics ++ ss) i) in

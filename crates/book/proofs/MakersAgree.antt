@@ -126,9 +126,6 @@ first-unknown : (m : ℕ) (fs : List ℕ) → firstAt (λ n. ltb (14 + m) n) fs 
 first-unknown m [] = refl
 first-unknown m (f ∷ fs) = go (known-or m f) (first-unknown m fs) (decLt (Makers.unknownAt (15 + m) fs) (length fs))
   where
-    u : ℕ
-    u = Makers.unknownAt (15 + m) fs
-
     go : ((ltb f (15 + m) ≡ true) × (ltb (14 + m) f ≡ false)) ⊎ ((ltb f (15 + m) ≡ false) × (ltb (14 + m) f ≡ true))
         → firstAt (λ n. ltb (14 + m) n) fs ≡ cond (ltb (Makers.unknownAt (15 + m) fs) (length fs)) (some (Makers.unknownAt (15 + m) fs)) none
         → Dec (Makers.unknownAt (15 + m) fs < length fs)
@@ -158,9 +155,6 @@ module _ (limits : Limits) (b : List Node) (room : Room limits b) where
   structure-after : (fs : List ℕ) → ltb longestForm (sizeOf b (structure fs)) ≡ false → Makers.structurePlaced (limits .types) (limits .fields) b (tailsOf b) fs ≡ triple (after limits b (structure fs))
   structure-after fs s = go (cases-bool (ltb (limits .fields) (length (Makers.addTails (tailsOf b) fs))))
     where
-      x : Node
-      x = structure fs
-
       end : (o : Refusing) → Makers.kept (answered b (enter b (structure fs)) o .0) b (answered b (enter b (structure fs)) o .1) (tailsOf b) (Makers.addTails (tailsOf b) fs) ≡ triple (answered b (enter b (structure fs)) o)
       end none = ap (λ (z : List (List ℕ)). (accepted (15 + place sameNode b (structure fs)), add sameNode b (structure fs), z)) (same-tails fs)
       end (some e) = refl
@@ -200,9 +194,6 @@ pub room-kept : (limits : Limits) (b : List Node) → Room limits b → (c : Cal
 unfolding call
 room-kept limits b room c = go (early c (length b))
   where
-    g : ℕ × List Node
-    g = Nodes.grown b c
-
     end : (o : Bool) (p q : Bool) → ltb (limits .types) (length (Nodes.grown b c .1)) ≡ p → ltb (limits .fields) (length (tailsOf (Nodes.grown b c .1))) ≡ q
         → Room limits (answered b (Nodes.grown b c) ((when o 7) else (when (p || q) 8)) .1)
     end true p q e f = room
