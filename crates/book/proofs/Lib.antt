@@ -13,3 +13,6 @@ pub mod Questions
 pub mod Within
 pub mod Backed
 pub mod Histories
+pub mod Places
+pub mod MakersTold
+pub mod Growth

@@ -23,7 +23,7 @@ use Rattle.book.proofs.Lists.{numbers, same-lists, has-in, not-in, add-old, ad
 use Rattle.book.proofs.NodeShapes.{same-nodes}
 
 -- the tails of one list of nodes and then of another
-tails-append : (T : List (List ℕ)) (b r : List Node) → tailsFrom T (b ++ r) ≡ tailsFrom (tailsFrom T b) r
+pub tails-append : (T : List (List ℕ)) (b r : List Node) → tailsFrom T (b ++ r) ≡ tailsFrom (tailsFrom T b) r
 tails-append T [] r = refl
 tails-append T (x ∷ b) r = tails-append (addAll (sameList eqb) T (tails (fieldsOf x))) b r
 
