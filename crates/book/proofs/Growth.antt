@@ -1,20 +1,20 @@
 -- A shape entered into a book: what was there stays, and the shape's number has its text.
-use mathlib.Core.Path.{_≡_, refl, sym, ap, subst, _∙_}
+use mathlib.Core.Path.{_≡_, sym, ap, _∙_}
 use mathlib.Core.List.{List, [], _∷_, _++_, map, append-assoc, append-nil}
-use Prim.Native.Nat.{ℕ, _+_, _≤_}
+use Prim.Native.Nat.{ℕ}
 use native.Mathlib.Omega.{arith}
 use lib.Dec.{eqb}
 use lib.ListN.{length, length-append}
-use Rattle.grammar.specs.Lists.{sameList, add, addAll, tails}
+use Rattle.grammar.specs.Lists.{sameList, addAll, tails}
 use Rattle.grammar.specs.Shape.{Text, Shape, Shapes, basic, nil, more, printed}
 use Rattle.grammar.specs.Shape
 use Rattle.grammar.specs.Parts.{containers}
 use Rattle.book.specs.Plain.{Limits, sameText, textOf}
-use Rattle.book.specs.Nodes.{Node, array, maybe, dict, structure, sameNode, intern, internAll, fieldsOf, tailsFrom, tailsOf, shapesFrom, shapeAt, Part, textsOf}
+use Rattle.book.specs.Nodes.{Node, array, maybe, dict, structure, intern, internAll, fieldsOf, tailsFrom, tailsOf, shapesFrom, Part, textsOf}
 use Rattle.book.specs.Agree.{Good, Room}
 use Rattle.book.proofs.Lists.{numbers, same-lists, add-longer, add-all-longer}
 use Rattle.book.proofs.NodeShapes.{same-nodes}
-use Rattle.book.proofs.Sound.{Sound, as-many}
+use Rattle.book.proofs.Sound.{as-many}
 use Rattle.book.proofs.Interned.{interned, text-is}
 use Rattle.book.proofs.MakersAgree.{tails-append}
 use Rattle.book.proofs.Agree.{good-sound}

@@ -16,3 +16,4 @@ pub mod Histories
 pub mod Places
 pub mod MakersTold
 pub mod Growth
+pub mod FromBytes

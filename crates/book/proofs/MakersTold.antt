@@ -1,5 +1,5 @@
 -- The makers, test by test, answer as the plain book does and keep what a book keeps.
-use mathlib.Core.Path.{_≡_, refl, sym, ap, subst, _∙_}
+use mathlib.Core.Path.{_≡_, refl, sym, subst}
 use mathlib.Core.List.{List}
 use Prim.Native.Nat.{ℕ}
 use Rattle.book.specs.Plain.{Answer, Call, Limits, call}
@@ -9,7 +9,7 @@ use Rattle.book.specs.Nodes
 use Rattle.book.specs.Makers
 use Rattle.book.specs.Agree.{Good, Room}
 use Rattle.book.proofs.Agree.{agrees}
-use Rattle.book.proofs.MakersAgree.{triple, array-same, maybe-same, dict-same, structure-same, room-kept}
+use Rattle.book.proofs.MakersAgree.{array-same, maybe-same, dict-same, structure-same, room-kept}
 
 -- what a call on nodes came to
 pub record Told (limits : Limits) (ns : List Node) (c : Call) (r : Answer × List Node) : Type 0 where

@@ -5,3 +5,4 @@ pub mod Agree
 pub mod Rows
 pub mod Questions
 pub mod History
+pub mod FromBytes
