@@ -9,11 +9,11 @@ use native.Mathlib.Omega.{arith}
 use lib.Dec.{eqb, ltb}
 use lib.ListN.{length, getD, length-append}
 use Rattle.grammar.specs.Lists.{In, sameList, addAll, tails}
-use Rattle.grammar.specs.Shape.{Text, Shape, Shapes, basic, array, maybe, dict, structure, nil, more, printed, printedAll}
+use Rattle.grammar.specs.Shape.{Text, basicCodes, Shape, Shapes, basic, array, maybe, dict, structure, nil, more, printed, printedAll}
 use Rattle.grammar.specs.Parts.{containers, containersAll}
 use Rattle.grammar.specs.Read.{reading}
 use Rattle.grammar.proofs.ReadBack.{reading-printed}
-use Rattle.book.specs.Plain.{Limits, sameText, known, textOf, containersOf, fieldsOf, grown, tailsFrom, tailsOf}
+use Rattle.book.specs.Plain.{Limits, sameText, single, known, textOf, containersOf, fieldsOf, grown, tailsFrom, tailsOf}
 use Rattle.book.proofs.Lists.{in-left, add-all-old, add-all-append, add-all-in, add-all-longer, same-lists}
 use Rattle.book.proofs.NodeShapes.{same-texts}
 use Rattle.book.proofs.Backed.{known-keeps}
@@ -86,10 +86,47 @@ pub fits-part : (limits : Limits) (b c : List Text) (t : Shape) → with c t ≡
 fits-part limits b c t e f = fits-add limits c (map printed (containers t)) (subst (Fits limits) (sym e) f)
 
 -- a number keeps its shape in a longer book
+known-longer : (b r : List Text) → length (known (b ++ r)) ≡ length (known b) + length r
+known-longer b r = ap (λ (z : List Text). length ([] ∷ z)) (sym (append-assoc (map single basicCodes) b r)) ∙ length-append (known b) r
+
 pub filed-add : (b xs : List Text) (n : ℕ) (t : Shape) → Filed b n t → Filed (addAll sameText b xs) n t
 filed-add b xs n t f =
     let p = add-all-longer same-texts b xs in
-    subst (λ (c : List Text). Filed c n t) (sym (p .1)) (record { within = longer (p .0); text = known-keeps b (p .0) n (f .within) ∙ f .text })
-  where
-    longer : (r : List Text) → n < length (known (b ++ r))
-    longer r = omega (arith, f .within, length-append b r, length-append (map (λ (c : ℕ). c ∷ []) (known-codes)) (b ++ r))
+    subst (λ (c : List Text). Filed c n t) (sym (p .1))
+    (record { within = omega (arith, f .within, known-longer b (p .0)); text = known-keeps b (p .0) n (f .within) ∙ f .text })
+
+pub filed-all-add : (b xs : List Text) (ns : List ℕ) (ts : Shapes) → FiledAll b ns ts → FiledAll (addAll sameText b xs) ns ts
+filed-all-add b xs [] nil f = tt
+filed-all-add b xs [] (more t ts) f = absurd f
+filed-all-add b xs (n ∷ ns) nil f = absurd f
+filed-all-add b xs (n ∷ ns) (more t ts) f = (filed-add b xs n t (f .0), filed-all-add b xs ns ts (f .1))
+
+-- one shape more at the end of a row
+abbrev pub joined : Shapes → Shapes → Shapes
+joined nil us = us
+joined (more t ts) us = more t (joined ts us)
+
+pub filed-all-push : (b : List Text) (ns : List ℕ) (ts : Shapes) (n : ℕ) (t : Shape) → FiledAll b ns ts → Filed b n t → FiledAll b (ns ++ n ∷ []) (joined ts (more t nil))
+filed-all-push b [] nil n t f g = (g, tt)
+filed-all-push b [] (more u ts) n t f g = absurd f
+filed-all-push b (m ∷ ns) nil n t f g = absurd f
+filed-all-push b (m ∷ ns) (more u ts) n t f g = (f .0, filed-all-push b ns ts n t (f .1) g)
+
+pub joined-assoc : (ts us vs : Shapes) → joined (joined ts us) vs ≡ joined ts (joined us vs)
+joined-assoc nil us vs = refl
+joined-assoc (more t ts) us vs = ap (more t) (joined-assoc ts us vs)
+
+pub joined-nil : (ts : Shapes) → joined ts nil ≡ ts
+joined-nil nil = refl
+joined-nil (more t ts) = ap (more t) (joined-nil ts)
+
+pub printed-joined : (ts us : Shapes) → printedAll (joined ts us) ≡ printedAll ts ++ printedAll us
+printed-joined nil us = refl
+printed-joined (more t ts) us = ap (λ (z : Text). printed t ++ z) (printed-joined ts us) ∙ sym (append-assoc (printed t) (printedAll ts) (printedAll us))
+
+pub with-joined : (b : List Text) (ts us : Shapes) → withAll b (joined ts us) ≡ withAll (withAll b ts) us
+with-joined b nil us = refl
+with-joined b (more t ts) us = with-all-more b t (joined ts us) ∙ with-joined (with b t) ts us ∙ ap (λ (c : List Text). withAll c us) (sym (with-all-more b t ts))
+
+pub with-one : (b : List Text) (t : Shape) → withAll b (more t nil) ≡ with b t
+with-one b t = with-all-more b t nil

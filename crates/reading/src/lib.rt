@@ -1,0 +1,1 @@
+// Reads texts into a sheet.
