@@ -41,7 +41,7 @@ pub record Built (limits : Limits) (b : List Text) (t : Shape) (n : ℕ) (b′ :
   pub book : b′ ≡ with b t
   pub filed : Filed b′ n t
   pub fits : Fits limits b′
-  pub left : left ≡ rest
+  pub onward : left ≡ rest
 
 -- There are not enough rows for the containers of t.
 pub record NoRoom (limits : Limits) (b : List Text) (t : Shape) (e : Refusal) : Type 0 where
