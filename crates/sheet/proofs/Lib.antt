@@ -1,0 +1,5 @@
+pub mod Places
+pub mod Keep
+pub mod Ask
+pub mod Laying
+pub mod Lays

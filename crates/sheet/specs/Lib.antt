@@ -1,0 +1,5 @@
+pub mod Tails
+pub mod Laid
+pub mod Kept
+pub mod Grown
+pub mod Made

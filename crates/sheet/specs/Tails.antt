@@ -1,0 +1,47 @@
+-- Field rows, as the tails of field lists that they hold.
+use mathlib.Core.Path.{_≡_}
+use mathlib.Core.List.{List, [], _∷_, _++_}
+use mathlib.Core.Bool.{Bool}
+use Prim.Native.Nat.{ℕ, zero, suc, _+_, _<_, _≤_}
+use lib.Dec.{eqb}
+use lib.ListN.{length, getD}
+use Rattle.grammar.specs.Lists.{sameList, place}
+use Rattle.sheet.specs.declared.row.FieldRow.{FieldRow}
+
+abbrev pub blankField : FieldRow
+blankField = record { field = 0; next = 0; count = 0 }
+
+abbrev pub fieldKey : FieldRow → List ℕ
+fieldKey r = r .field ∷ r .next ∷ r .count ∷ []
+
+abbrev pub sameTail : List ℕ → List ℕ → Bool
+sameTail = sameList eqb
+
+-- the tail at a place: 0 has the empty one, 1 the first of T
+abbrev pub tailAt : List (List ℕ) → ℕ → List ℕ
+tailAt T zero = []
+tailAt T (suc i) = getD T i []
+
+-- the place of a tail in T; past all where it is not in T
+abbrev pub tailPlace : List (List ℕ) → List ℕ → ℕ
+tailPlace T [] = 0
+tailPlace T (f ∷ fs) = place sameTail T (f ∷ fs) + 1
+
+-- the tails that field rows hold, each from the rows before it
+unfoldable pub rowTailsFrom : List (List ℕ) → List FieldRow → List (List ℕ)
+rowTailsFrom T [] = T
+rowTailsFrom T (r ∷ rs) = rowTailsFrom (T ++ (r .field ∷ tailAt T (r .next)) ∷ []) rs
+
+abbrev pub rowTails : List FieldRow → List (List ℕ)
+rowTails F = rowTailsFrom [] F
+
+-- the key of the row that holds a tail
+abbrev pub tailKey : List (List ℕ) → List ℕ → List ℕ
+tailKey T [] = 0 ∷ 0 ∷ 0 ∷ []
+tailKey T (f ∷ fs) = f ∷ tailPlace T fs ∷ suc (length fs) ∷ []
+
+-- Each field row is that of its tail, and no tail stands twice.
+pub record FieldsGood (F : List FieldRow) : Type 0 where
+  pub keys : (k : ℕ) → k < length F → fieldKey (getD F k blankField) ≡ tailKey (rowTails F) (getD (rowTails F) k [])
+  pub apart : (j k : ℕ) → j < k → k < length F → getD (rowTails F) j [] ≡ getD (rowTails F) k [] → ⊥
+  pub next : (k : ℕ) → k < length F → getD F k blankField .next ≤ k

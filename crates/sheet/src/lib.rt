@@ -1,0 +1,3 @@
+// A sheet of signatures: equal shapes have one number, on rows that the caller lends.
+pub mod row;
+pub mod sheet;

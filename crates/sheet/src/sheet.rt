@@ -1,0 +1,74 @@
+// The sheet itself: what it always keeps, opening it, and its rows.
+ghost use mathlib.Core.Path.{_≡_};
+ghost use mathlib.Core.List.{[]};
+ghost use Prim.Native.Nat.{ℕ, _<_, _≤_, min};
+ghost use lib.ListN.{length, getD};
+ghost use denote.Ref.{now};
+ghost use Rattle.std.specs.Options.{Cases as BySome};
+ghost use Rattle.rows.specs.Found.{Located};
+ghost use Rattle.book.specs.Plain.{mostTypes, mostFields};
+ghost use Rattle.sheet.specs.Kept.{Kept, blankType};
+ghost use Rattle.sheet.specs.Tails.{blankField};
+use crate::row::{ByField, ByType, FieldRow, TypeRow};
+use rows::RowList;
+
+// How many rows of each kind are ever used.
+const MOST_TYPES: usize = 65520;
+const MOST_FIELDS: usize = 65535;
+
+#[derive(Drop)]
+pub struct Sheet<'a> {
+    pub(crate) types: RowList<'a, TypeRow>,
+    pub(crate) fields: RowList<'a, FieldRow>,
+    ghost types_within: { types .count ≤ types .cap },
+    ghost types_usable: { types .cap ≤ length (now (types .rows)) },
+    ghost types_most: { types .cap ≤ 65520 },
+    ghost fields_within: { fields .count ≤ fields .cap },
+    ghost fields_usable: { fields .cap ≤ length (now (fields .rows)) },
+    ghost fields_most: { fields .cap ≤ 65535 },
+    ghost good: { ∥ Kept (now (types .rows)) (types .count) (now (fields .rows)) (fields .count) ∥₁ },
+}
+
+impl<'a> Sheet<'a> {
+    // An empty sheet on the lent rows, which are all made blank.
+    pub fn open(types: &'a mut [TypeRow], fields: &'a mut [FieldRow]) -> Sheet<'a>
+        ensures types_count { λ r. ⌜ r .types .count ≡ 0 ⌝ }
+        ensures types_cap { λ r. ⌜ r .types .cap ≡ min (length (now (types .entry))) mostTypes ⌝ }
+        ensures types_long { λ r. ⌜ length (now (r .types .rows)) ≡ length (now (types .entry)) ⌝ }
+        ensures types_blank { λ r. ⌜ ((k : ℕ) (d : TypeRow) → k < length (now (r .types .rows)) → getD (now (r .types .rows)) k d ≡ blankType) ⌝ }
+        ensures fields_count { λ r. ⌜ r .fields .count ≡ 0 ⌝ }
+        ensures fields_cap { λ r. ⌜ r .fields .cap ≡ min (length (now (fields .entry))) mostFields ⌝ }
+        ensures fields_long { λ r. ⌜ length (now (r .fields .rows)) ≡ length (now (fields .entry)) ⌝ }
+        ensures fields_blank { λ r. ⌜ ((k : ℕ) (d : FieldRow) → k < length (now (r .fields .rows)) → getD (now (r .fields .rows)) k d ≡ blankField) ⌝ }
+    {
+        Sheet {
+            types: RowList::open(types, TypeRow::BLANK, MOST_TYPES),
+            fields: RowList::open(fields, FieldRow::BLANK, MOST_FIELDS),
+        }
+    }
+
+    // How many rows of each kind are in use.
+    pub fn counts(&mut self) -> (usize, usize)
+        ensures same { λ _. ⌜ now (self .exit) ≡ now (self .entry) ⌝ }
+        ensures types { λ r. ⌜ r .0 ≡ now (self .entry) .types .count ⌝ }
+        ensures fields { λ r. ⌜ r .1 ≡ now (self .entry) .fields .count ⌝ }
+    {
+        (self.types.len(), self.fields.len())
+    }
+
+    // The type row in use at place `i`, from 0.
+    pub fn type_row(&mut self, i: usize) -> Option<TypeRow>
+        ensures same { λ _. ⌜ now (self .exit) ≡ now (self .entry) ⌝ }
+        ensures row { λ r. ⌜ BySome r (now (self .entry) .types .count ≤ i) (λ x. Located (now (self .entry) .types) i x) ⌝ }
+    {
+        self.types.row(i)
+    }
+
+    // The field row in use at place `i`, from 0.
+    pub fn field_row(&mut self, i: usize) -> Option<FieldRow>
+        ensures same { λ _. ⌜ now (self .exit) ≡ now (self .entry) ⌝ }
+        ensures row { λ r. ⌜ BySome r (now (self .entry) .fields .count ≤ i) (λ x. Located (now (self .entry) .fields) i x) ⌝ }
+    {
+        self.fields.row(i)
+    }
+}
