@@ -3,3 +3,7 @@ pub mod Keep
 pub mod Ask
 pub mod Laying
 pub mod Lays
+pub mod More
+pub mod Tailed
+pub mod Bounds
+pub mod Step

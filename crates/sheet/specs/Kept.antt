@@ -8,7 +8,7 @@ use lib.ListN.{length, getD, take}
 use denote.Ref.{now}
 use Rattle.grammar.specs.declared.figures.Figures.{Figures}
 use Rattle.rows.specs.declared.RowList.{RowList}
-use Rattle.book.specs.Nodes.{Node, array, maybe, dict, structure, blankFigures, figuresFrom, tailsOf, Chain}
+use Rattle.book.specs.Nodes.{Node, array, maybe, dict, structure, blankFigures, nodeFigures, figuresFrom, tailsOf, Known, Chain}
 use Rattle.sheet.specs.declared.row.TypeRow.{TypeRow}
 use Rattle.sheet.specs.declared.row.FieldRow.{FieldRow}
 use Rattle.sheet.specs.Tails.{blankField, tailAt, tailPlace, rowTails, FieldsGood}
@@ -75,3 +75,12 @@ tailsIn f = tailsAt (now (f .rows)) (f .count)
 
 abbrev pub fieldsIn : RowList FieldRow → List FieldRow
 fieldsIn f = take (f .count) (now (f .rows))
+
+abbrev pub typesIn : RowList TypeRow → List TypeRow
+typesIn t = take (t .count) (now (t .rows))
+
+-- A row that may be added to the type rows L, over the field rows F.
+pub record Fit (L : List TypeRow) (F : List FieldRow) (r : TypeRow) : Type 0 where
+  pub coded : typeKey r ≡ nodeKey F (nodeOf F r)
+  pub figures : r .figures ≡ nodeFigures (figuresFrom [] (nodes F L)) (nodeOf F r)
+  pub known : Known (length L) (nodeOf F r)

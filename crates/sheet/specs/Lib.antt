@@ -3,3 +3,4 @@ pub mod Laid
 pub mod Kept
 pub mod Grown
 pub mod Made
+pub mod Figured
