@@ -7,3 +7,6 @@ pub mod More
 pub mod Tailed
 pub mod Bounds
 pub mod Step
+pub mod Undo
+pub mod Enter
+pub mod Makes
