@@ -6,6 +6,8 @@ use Prim.Native.Nat.{ℕ, zero, suc, _+_, _-_, _<_, _≤_, min}
 use native.Mathlib.Omega.{arith}
 use native.Mathlib.Decide.{decLt}
 use lib.ListN.{length, getD, take, drop, set}
+use denote.Ref.{now}
+use Rattle.rows.specs.declared.RowList.{RowList}
 use Rattle.std.proofs.shelf.Lists.{take-more-set, length-push, getD-take, length-take-le, getD-set-other, length-set, length-drop, drop-more, drop-all, same-lists, getD-default}
 use Rattle.grammar.specs.Lists.{place, add}
 use Rattle.rows.specs.Found.{Held, Added, Refused, Place, Absent}
@@ -128,3 +130,15 @@ no-room old m cap fs i j rows n at r new n′ fin nf rd g ei lj er q en el below
 pub place-fits : (rows : List FieldRow) (n cap : ℕ) (r : FieldRow) (new : List FieldRow) (n′ p : ℕ) → n ≤ cap → cap ≤ 65535 → Place fieldKey rows n cap r new n′ p → p + 1 ≤ 65535
 place-fits rows n cap r new n′ p a b (inl q) = omega (arith, q .below)
 place-fits rows n cap r new n′ p a b (inr q) = omega (arith, q .place, q .room)
+
+-- the list that is laid on, where it is as it was
+pub ready-as : (a b : RowList FieldRow) → a ≡ b → Ready (now (b .rows)) (b .count) (b .cap) → Ready (now (a .rows)) (a .count) (a .cap)
+ready-as a b e h = subst (λ (x : RowList FieldRow). Ready (now (x .rows)) (x .count) (x .cap)) (sym e) h
+
+pub laid-as : (a b : RowList FieldRow) (fs : List ℕ) (i : ℕ) (new : List FieldRow) (n p : ℕ) → a ≡ b
+    → Laid (now (a .rows)) (a .count) (a .cap) fs i new n p → Laid (now (b .rows)) (b .count) (b .cap) fs i new n p
+laid-as a b fs i new n p e h = subst (λ (x : RowList FieldRow). Laid (now (x .rows)) (x .count) (x .cap) fs i new n p) e h
+
+pub no-room-as : (a b : RowList FieldRow) (fs : List ℕ) (new : List FieldRow) (n : ℕ) → a ≡ b
+    → NoRoom (now (a .rows)) (a .count) (a .cap) fs new n → NoRoom (now (b .rows)) (b .count) (b .cap) fs new n
+no-room-as a b fs new n e h = subst (λ (x : RowList FieldRow). NoRoom (now (x .rows)) (x .count) (x .cap) fs new n) e h

@@ -10,3 +10,6 @@ pub mod Step
 pub mod Undo
 pub mod Enter
 pub mod Makes
+pub mod Firsts
+pub mod Structs
+pub mod Fields

@@ -32,7 +32,7 @@ pub node-at : (L : List TypeRow) (F : List FieldRow) (j : ℕ) (d : Node) → j 
 node-at L F j d l = getD-map (nodeOf F) L j blankType d l
 
 -- any container, where a default is asked for
-abbrev some-node : Node
+abbrev pub some-node : Node
 some-node = nodeOf [] blankType
 
 key-of-node : (L : List TypeRow) (F : List FieldRow) (r : TypeRow) → Good L F → typeKey r ≡ nodeKey F (nodeOf F r) → (j : ℕ) → j < length L

@@ -4,3 +4,4 @@ pub mod Kept
 pub mod Grown
 pub mod Made
 pub mod Figured
+pub mod Structured

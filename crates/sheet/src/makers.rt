@@ -4,14 +4,22 @@ ghost use mathlib.Core.List.{[]};
 ghost use Prim.Native.Nat.{ℕ, _+_, _<_, _≤_};
 ghost use lib.ListN.{length};
 ghost use Rattle.grammar.specs.Refusals.{outcome};
-ghost use Rattle.book.specs.Nodes.{fieldsOf};
-ghost use Rattle.book.specs.Makers.{placed, arrayCall, maybeCall, dictCall};
+ghost use Rattle.std.specs.Results.{Cases};
+ghost use Rattle.book.specs.Nodes.{fieldsOf, fieldFigures, figuresFrom};
+ghost use Rattle.book.specs.Makers.{placed, arrayCall, maybeCall, dictCall, structurePlaced, structureCall};
 ghost use Rattle.sheet.specs.Kept.{Fit, nodesOf, tailsIn, typesIn, fieldsIn, nodeOf};
 ghost use Rattle.sheet.specs.Made.{Made, withTails};
-use crate::figures::{array_figures, dict_figures, maybe_figures};
+ghost use Rattle.sheet.specs.Figured.{Short, Long};
+ghost use Rattle.sheet.specs.Structured.{AllParts, Structured};
+use crate::figures::{array_figures, dict_figures, maybe_figures, structure_figures, with_field};
+use crate::lay::{all_known, file_structure, no_unit};
 use crate::row::{ByType, TypeRow, ARRAY, DICT, MAYBE};
 use crate::sheet::Sheet;
 use grammar::error::Refusal;
+use grammar::figures::Figures;
+
+// The figures of no fields.
+const NO_FIELDS: Figures = Figures { length: 0, structures: 0, arrays: 0, dbus: 8, gvariant: 0, fixed: true, maybe: false };
 
 impl<'a> Sheet<'a> {
     // The number of a container that is no structure; a new one is added.
@@ -64,5 +72,49 @@ impl<'a> Sheet<'a> {
         }
         let figures = dict_figures(key, value)?;
         self.enter(TypeRow { kind: DICT, first: k, second: v, figures })
+    }
+
+    // The number of the next new container; those below it are known.
+    fn next_number(&mut self) -> usize
+        ensures same { λ _. ⌜ now (self .exit) ≡ now (self .entry) ⌝ }
+        ensures number { λ r. ⌜ r ≡ 15 + length (nodesOf (now (self .entry) .types) (now (self .entry) .fields)) ⌝ }
+    {
+        15 + self.counts().0
+    }
+
+    // The figures of the fields `fs` in a row.
+    fn field_figures(&mut self, fs: &[u16]) -> Result<Figures, Refusal>
+        requires { ⌜ AllParts (length (nodesOf (now self .types) (now self .fields))) (now fs) ⌝ }
+        ensures same { λ _. ⌜ now (self .exit) ≡ now (self .entry) ⌝ }
+        ensures figures { λ r. ⌜ Cases r (λ f. Short (fieldFigures (figuresFrom [] (nodesOf (now (self .entry) .types) (now (self .entry) .fields))) (now (fs .entry))) f) (λ e. Long (fieldFigures (figuresFrom [] (nodesOf (now (self .entry) .types) (now (self .entry) .fields))) (now (fs .entry))) e) ⌝ }
+    {
+        let mut all = NO_FIELDS;
+        for i in (0..fs.len()).rev() {
+            let field = self.figures(fs[i], i)?;
+            all = with_field(field, all)?;
+        }
+        Ok(all)
+    }
+
+    // The number of the structure of the fields `fs`, which has these figures; a new one is added.
+    pub(crate) fn structure_of(&mut self, fs: &[u16], figures: Figures) -> Result<u16, Refusal>
+        requires { ⌜ Structured (now self .types) (now self .fields) (now fs) figures ⌝ }
+        ensures { λ r. ⌜ Made (now (self .entry) .types) (now (self .entry) .fields) (now (self .exit) .types) (now (self .exit) .fields) (outcome r) (structurePlaced (now (self .entry) .types .cap) (now (self .entry) .fields .cap) (nodesOf (now (self .entry) .types) (now (self .entry) .fields)) (tailsIn (now (self .entry) .fields)) (now (fs .entry))) ⌝ }
+    {
+        file_structure(&mut self.types, &mut self.fields, fs, figures)
+    }
+
+    // The structure of the numbers `fs`.
+    pub fn structure(&mut self, fs: &[u16]) -> Result<u16, Refusal>
+        ensures { λ r. ⌜ Made (now (self .entry) .types) (now (self .entry) .fields) (now (self .exit) .types) (now (self .exit) .fields) (outcome r) (structureCall (now (self .entry) .types .cap) (now (self .entry) .fields .cap) (nodesOf (now (self .entry) .types) (now (self .entry) .fields)) (tailsIn (now (self .entry) .fields)) (now (fs .entry))) ⌝ }
+    {
+        all_known(fs, self.next_number())?;
+        no_unit(fs)?;
+        if fs.is_empty() {
+            return Err(Refusal::NoFields);
+        }
+        let fields = self.field_figures(fs)?;
+        let figures = structure_figures(fields)?;
+        self.structure_of(fs, figures)
     }
 }
