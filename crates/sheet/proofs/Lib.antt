@@ -12,4 +12,5 @@ pub mod Enter
 pub mod Makes
 pub mod Firsts
 pub mod Structs
-pub mod Fields
+pub mod Summed
+pub mod Shown

@@ -5,3 +5,5 @@ pub mod Grown
 pub mod Made
 pub mod Figured
 pub mod Structured
+pub mod Asked
+pub mod Format

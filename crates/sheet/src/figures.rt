@@ -8,6 +8,9 @@ ghost use Rattle.grammar.specs.declared.error.Refusal.the-variants.{FormTooLong
 ghost use Rattle.book.specs.Nodes.{firstFigures, blankFigures, arrayFigures, maybeFigures, dictFigures, withField, structureFigures};
 ghost use Rattle.sheet.specs.Figured.{Bounded, Short, Long, Figured, NotKnown};
 ghost use Rattle.sheet.specs.Kept.{nodesOf};
+ghost use Rattle.sheet.specs.Asked.{figured, alignmentOf};
+ghost use Rattle.grammar.specs.Refusals.{outcome, accepted};
+use crate::serialized::Format;
 use crate::sheet::Sheet;
 use grammar::error::Refusal;
 use grammar::figures::Figures;
@@ -123,5 +126,53 @@ impl<'a> Sheet<'a> {
             Some(row) => Ok(row.figures),
             None => Err(Refusal::Unknown(position)),
         }
+    }
+
+    // The length of the printed form.
+    pub fn string_len(&mut self, n: u16) -> Result<u16, Refusal>
+        ensures same { λ _. ⌜ now (self .exit) ≡ now (self .entry) ⌝ }
+        ensures answer { λ r. ⌜ outcome r ≡ figured (λ f. accepted (f .length)) (nodesOf (now (self .entry) .types) (now (self .entry) .fields)) n ⌝ }
+    {
+        let figures = self.figures(n, 0)?;
+        Ok(figures.length)
+    }
+
+    // The alignment in a format; a maybe has none in D-Bus.
+    pub fn alignment(&mut self, n: u16, format: Format) -> Result<u8, Refusal>
+        ensures same { λ _. ⌜ now (self .exit) ≡ now (self .entry) ⌝ }
+        ensures answer { λ r. ⌜ outcome r ≡ figured (alignmentOf format) (nodesOf (now (self .entry) .types) (now (self .entry) .fields)) n ⌝ }
+    {
+        let figures = self.figures(n, 0)?;
+        match format {
+            Format::DBus => if figures.dbus == 0 { Err(Refusal::WrongKind) } else { Ok(figures.dbus) },
+            Format::GVariant => Ok(figures.gvariant),
+        }
+    }
+
+    // Whether each value has the same size.
+    pub fn is_fixed_sized(&mut self, n: u16) -> Result<bool, Refusal>
+        ensures same { λ _. ⌜ now (self .exit) ≡ now (self .entry) ⌝ }
+        ensures answer { λ r. ⌜ outcome r ≡ figured (λ f. accepted (f .fixed)) (nodesOf (now (self .entry) .types) (now (self .entry) .fields)) n ⌝ }
+    {
+        let figures = self.figures(n, 0)?;
+        Ok(figures.fixed)
+    }
+
+    // Whether the signature is or holds a maybe.
+    pub fn contains_maybe(&mut self, n: u16) -> Result<bool, Refusal>
+        ensures same { λ _. ⌜ now (self .exit) ≡ now (self .entry) ⌝ }
+        ensures answer { λ r. ⌜ outcome r ≡ figured (λ f. accepted (f .maybe)) (nodesOf (now (self .entry) .types) (now (self .entry) .fields)) n ⌝ }
+    {
+        let figures = self.figures(n, 0)?;
+        Ok(figures.maybe)
+    }
+
+    // How deep structures are nested, and how deep arrays and dictionaries.
+    pub fn depths(&mut self, n: u16) -> Result<(u16, u16), Refusal>
+        ensures same { λ _. ⌜ now (self .exit) ≡ now (self .entry) ⌝ }
+        ensures answer { λ r. ⌜ outcome r ≡ figured (λ f. accepted (f .structures, f .arrays)) (nodesOf (now (self .entry) .types) (now (self .entry) .fields)) n ⌝ }
+    {
+        let figures = self.figures(n, 0)?;
+        Ok((figures.structures, figures.arrays))
     }
 }

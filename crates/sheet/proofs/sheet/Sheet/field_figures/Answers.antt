@@ -9,7 +9,7 @@ use Rattle.grammar.specs.declared.figures.Figures.{Figures}
 use Rattle.book.specs.Nodes.{fieldFigures, figuresFrom}
 use Rattle.sheet.specs.Kept.{nodesOf}
 use Rattle.sheet.proofs.Makes.{unknown-as}
-use Rattle.sheet.proofs.Fields.{fields-with, fields-longer}
+use Rattle.sheet.proofs.Summed.{fields-with, fields-longer}
 use Rattle.sheet.proofs.sheet.Sheet.field_figures.Needs as need
 
 pub loop-i-holds : need.loop-i-holds

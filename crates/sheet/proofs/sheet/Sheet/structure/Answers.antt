@@ -13,7 +13,7 @@ use Rattle.book.specs.Makers.{unknownAt}
 use Rattle.sheet.specs.Kept.{nodesOf, tailsIn}
 use Rattle.sheet.specs.Figured.{Bounded}
 use Rattle.sheet.proofs.Bounds.{fields-in}
-use Rattle.sheet.proofs.Fields.{few-fields}
+use Rattle.sheet.proofs.Summed.{few-fields}
 use Rattle.sheet.proofs.Structs.{structure-unknown, structure-unit, structure-long, structure-good, refused-still, structure-as, structured-as, parts-as, fields-as, long-as, known-by, parts-from}
 use Rattle.sheet.proofs.sheet.Sheet.structure.Needs as need
 
