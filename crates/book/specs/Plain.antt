@@ -15,7 +15,6 @@ use Rattle.grammar.specs.Read.{reading, readAll}
 use Rattle.grammar.specs.Refusals.{Outcome, accepted, refused, letterOf}
 
 infixr 30 _else_
-
 -- the calls that may alter a sheet
 pub data Call : Type 0 where
   fromBytes : Text → Call

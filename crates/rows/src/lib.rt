@@ -37,7 +37,11 @@ impl<'a, R: Row> RowList<'a, R> {
             *r = blank;
         }
         let cap = if rows.len() < most { rows.len() } else { most };
-        RowList { rows, count: 0, cap }
+        RowList {
+            rows,
+            count: 0,
+            cap,
+        }
     }
 
     // How many rows are in use.
@@ -45,7 +49,11 @@ impl<'a, R: Row> RowList<'a, R> {
         ensures same { λ _. ⌜ now (self .exit) ≡ now (self .entry) ⌝ }
         ensures count { λ r. ⌜ r ≡ used (now (self .entry)) ⌝ }
     {
-        if self.count < self.rows.len() { self.count } else { self.rows.len() }
+        if self.count < self.rows.len() {
+            self.count
+        } else {
+            self.rows.len()
+        }
     }
 
     // The row in use at place `i`.
@@ -53,7 +61,11 @@ impl<'a, R: Row> RowList<'a, R> {
         ensures same { λ _. ⌜ now (self .exit) ≡ now (self .entry) ⌝ }
         ensures row { λ r. ⌜ BySome r (used (now (self .entry)) ≤ i) (λ x. Located (now (self .entry)) i x) ⌝ }
     {
-        if i < self.len() { Some(self.rows[i]) } else { None }
+        if i < self.len() {
+            Some(self.rows[i])
+        } else {
+            None
+        }
     }
 
     // A place in use with a row that is the same.

@@ -29,7 +29,6 @@ use Rattle.sheet.proofs.Undo.{same-refl, grown-same, grown-by, grew-same, kept
 module _ (t t′ : RowList TypeRow) (f : RowList FieldRow) (r : TypeRow)
     (h : t .count ≤ t .cap) (u : t .cap ≤ length (now (t .rows)))
     (k : Kept (now (t .rows)) (t .count) (now (f .rows)) (f .count)) (fit : Fit (typesIn t) (fieldsIn f) r) where
-
   -- the sheet is kept, whatever the answer
   pub after : (o : Option ℕ) → fieldsOf (nodeOf (fieldsIn f) r) ≡ []
       → BySome o (Refused typeKey (now (t .rows)) (t .count) (t .cap) r (now (t′ .rows)) (t′ .count)) (λ i. Place typeKey (now (t .rows)) (t .count) (t .cap) r (now (t′ .rows)) (t′ .count) i)

@@ -51,4 +51,3 @@ pub all-more : (fs : List ℕ) → length fs ≤ unitAt fs → (i : ℕ) → i <
 all-more [] h i l = absurd (omega arith)
 all-more (f ∷ fs) h zero l = more-head f fs h .0
 all-more (f ∷ fs) h (suc i) l = all-more fs (more-head f fs h .1) i (omega arith)
-

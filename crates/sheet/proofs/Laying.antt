@@ -71,7 +71,7 @@ pub row-held : (F : List FieldRow) (f : ℕ) (fs : List ℕ) → FieldsGood F �
     → fieldKey (getD F i blankField) ≡ f ∷ tailPlace (rowTails F) fs ∷ suc (length fs) ∷ [] → place sameTail (rowTails F) (f ∷ fs) ≡ i
 row-held F f fs g p i l e =
     let here : getD (rowTails F) i [] ≡ f ∷ fs =
-        tails-at F g i l ∙ ap (λ (k : List ℕ). getD k 0 0 ∷ tailAt (rowTails F) (getD k 1 0)) e ∙ ap (λ (u : List ℕ). f ∷ u) (tail-hit (rowTails F) fs p) in
+    tails-at F g i l ∙ ap (λ (k : List ℕ). getD k 0 0 ∷ tailAt (rowTails F) (getD k 1 0)) e ∙ ap (λ (u : List ℕ). f ∷ u) (tail-hit (rowTails F) fs p) in
     place-at sameTail tail-tells [] (rowTails F) (f ∷ fs) i (omega (arith, tails-long F)) here (λ j h q. g .apart j i h l (q ∙ sym here))
 
 pub row-none : (F : List FieldRow) (f : ℕ) (fs : List ℕ) → FieldsGood F
@@ -110,25 +110,31 @@ tails-added F f fs p = tails-push [] F (row-of (rowTails F) f fs) ∙ ap (λ (u 
 pub fgood-push : (F : List FieldRow) (f : ℕ) (fs : List ℕ) → FieldsGood F → tailPlace (rowTails F) fs ≤ length (rowTails F) → place sameTail (rowTails F) (f ∷ fs) ≡ length (rowTails F)
     → FieldsGood (F ++ row-of (rowTails F) f fs ∷ [])
 fgood-push F f fs g p new = record {
-    keys = subst (λ (U : List (List ℕ)). (k : ℕ) → k < length (F ++ r ∷ []) → fieldKey (getD (F ++ r ∷ []) k blankField) ≡ tailKey U (getD U k [])) (sym eT)
+  keys = subst (λ (U : List (List ℕ)). (k : ℕ) → k < length (F ++ r ∷ []) → fieldKey (getD (F ++ r ∷ []) k blankField) ≡ tailKey U (getD U k [])) (sym eT)
       (each-push (λ k x. fieldKey x ≡ tailKey T′ (getD T′ k [])) blankField F r
-        (λ k l. g .keys k l ∙ key-more F (f ∷ fs) g k l ∙ ap (tailKey T′) (sym (old k l)))
-        (ap (λ (m : ℕ). f ∷ m ∷ suc (length fs) ∷ []) (sym (tail-more T fs (f ∷ fs) p)) ∙ sym (ap (tailKey T′) last)));
-    apart = subst (λ (U : List (List ℕ)). (j k : ℕ) → j < k → k < length (F ++ r ∷ []) → getD U j [] ≡ getD U k [] → ⊥) (sym eT)
+      (λ k l. g .keys k l ∙ key-more F (f ∷ fs) g k l ∙ ap (tailKey T′) (sym (old k l)))
+      (ap (λ (m : ℕ). f ∷ m ∷ suc (length fs) ∷ []) (sym (tail-more T fs (f ∷ fs) p)) ∙ sym (ap (tailKey T′) last)));
+  apart = subst (λ (U : List (List ℕ)). (j k : ℕ) → j < k → k < length (F ++ r ∷ []) → getD U j [] ≡ getD U k [] → ⊥) (sym eT)
       (λ j k l h. each-push (λ k x. j < k → getD T′ j [] ≡ getD T′ k [] → ⊥) blankField F r
-        (λ k h l e. g .apart j k l h (sym (old j (omega arith)) ∙ e ∙ old k h))
-        (λ h e. let b : place sameTail T (f ∷ fs) ≤ j = place-le sameTail tail-tells [] T (f ∷ fs) j (omega (arith, tails-long F)) (sym (old j h) ∙ e ∙ last) in omega (arith, tails-long F)) k h l);
-    next = each-push (λ k x. x .next ≤ k) blankField F r (g .next) (omega (arith, tails-long F)) }
+      (λ k h l e. g .apart j k l h (sym (old j (omega arith)) ∙ e ∙ old k h))
+      (λ h e. let b : place sameTail T (f ∷ fs) ≤ j = place-le sameTail tail-tells [] T (f ∷ fs) j (omega (arith, tails-long F)) (sym (old j h) ∙ e ∙ last) in omega (arith, tails-long F)) k h l);
+  next = each-push (λ k x. x .next ≤ k) blankField F r (g .next) (omega (arith, tails-long F));
+}
   where
     T : List (List ℕ)
     T = rowTails F
+
     r : FieldRow
     r = row-of (rowTails F) f fs
+
     T′ : List (List ℕ)
     T′ = rowTails F ++ (f ∷ fs) ∷ []
+
     eT : rowTails (F ++ row-of (rowTails F) f fs ∷ []) ≡ rowTails F ++ (f ∷ fs) ∷ []
     eT = tails-added F f fs p
+
     old : (k : ℕ) → k < length F → getD (rowTails F ++ (f ∷ fs) ∷ []) k [] ≡ getD (rowTails F) k []
     old k l = getD-append-left (rowTails F) ((f ∷ fs) ∷ []) [] k (omega (arith, tails-long F))
+
     last : getD (rowTails F ++ (f ∷ fs) ∷ []) (length F) [] ≡ f ∷ fs
     last = getD-push (rowTails F) (f ∷ fs) [] (length F) (tails-long F)

@@ -22,10 +22,15 @@ pub laid-start : (old : List FieldRow) (m cap : ℕ) (fs : List ℕ) → Ready o
 laid-start old m cap fs r =
     let e : drop (length fs) fs ≡ [] = drop-all (length fs) fs (omega arith) in
     record {
-        ready = r;
-        lists = rw e;
-        next = rw e;
-        found = omega arith; low = omega arith; long = refl; same = λ k d h. refl; rest = λ k d h. refl }
+      ready = r;
+      lists = rw e;
+      next = rw e;
+      found = omega arith;
+      low = omega arith;
+      long = refl;
+      same = λ k d h. refl;
+      rest = λ k d h. refl;
+    }
 
 -- The row of the tail at j.
 row-is : (fs : List ℕ) (T : List (List ℕ)) (i j at : ℕ) → i ≡ j + 1 → j < length fs → at ≡ tailPlace T (drop i fs)
@@ -57,11 +62,15 @@ laid-step old m cap fs i j rows n at r new n′ p g ei lj er (inl q) =
     let ix : place sameTail T (f ∷ gs) ≡ p = row-held F f gs (g .ready .good) p0 p (omega arith) key in
     let held : add sameTail T (f ∷ gs) ≡ T = add-held sameTail tail-tells T (f ∷ gs) (omega (arith, tails-long F)) in
     rw (q .rows, q .count) (record {
-        ready = g .ready;
-        lists = sym held ∙ ap (λ (U : List (List ℕ)). add sameTail U (f ∷ gs)) (g .lists) ∙ sym (ap (addTails (rowTails (take m old))) ed);
-        next = ap (λ (u : ℕ). u + 1) (sym ix) ∙ sym (ap (tailPlace T) ed);
-        found = omega arith;
-        low = g .low; long = g .long; same = g .same; rest = g .rest })
+      ready = g .ready;
+      lists = sym held ∙ ap (λ (U : List (List ℕ)). add sameTail U (f ∷ gs)) (g .lists) ∙ sym (ap (addTails (rowTails (take m old))) ed);
+      next = ap (λ (u : ℕ). u + 1) (sym ix) ∙ sym (ap (tailPlace T) ed);
+      found = omega arith;
+      low = g .low;
+      long = g .long;
+      same = g .same;
+      rest = g .rest;
+    })
 laid-step old m cap fs i j rows n at r new n′ p g ei lj er (inr q) =
     let F : List FieldRow = take n rows in
     let T : List (List ℕ) = rowTails F in
@@ -81,19 +90,21 @@ laid-step old m cap fs i j rows n at r new n′ p g ei lj er (inr q) =
     let F-is : take (n + 1) (set rows n r) ≡ F ++ row-of T f gs ∷ [] = take-more-set rows n r l ∙ ap (λ (x : FieldRow). F ++ x ∷ []) er′ in
     let T-is : rowTails (take (n + 1) (set rows n r)) ≡ T ++ (f ∷ gs) ∷ [] = ap rowTails F-is ∙ tails-added F f gs p0 in
     rw (new-is, n-is) (record {
-        ready = record {
-            good = subst FieldsGood (sym F-is) (fgood-push F f gs (g .ready .good) p0 ix);
-            within = omega arith;
-            usable = rw length-set (g .ready .usable);
-            most = g .ready .most;
-            blank = λ k h. getD-set-other rows n k r blankField (omega arith) ∙ g .ready .blank k (omega arith) };
-        lists = T-is ∙ sym (add-new sameTail tail-tells T (f ∷ gs) ix) ∙ ap (λ (U : List (List ℕ)). add sameTail U (f ∷ gs)) (g .lists) ∙ sym (ap (addTails (rowTails (take m old))) ed);
-        next = ap (λ (u : ℕ). u + 1) (q .place ∙ e ∙ sym lF ∙ sym (tails-long F) ∙ sym (place-last sameTail tail-tells [] T (f ∷ gs) ix)) ∙ sym (ap (λ (U : List (List ℕ)). tailPlace U (f ∷ gs)) T-is) ∙ sym (ap (tailPlace (rowTails (take (n + 1) (set rows n r)))) ed);
-        found = omega (arith, q .place);
-        low = omega (arith, g .low);
-        long = length-set rows n r ∙ g .long;
-        same = λ k d h. getD-set-other rows n k r d (omega (arith, g .low)) ∙ g .same k d h;
-        rest = λ k d h. getD-set-other rows n k r d (omega arith) ∙ g .rest k d (omega arith) })
+      ready = record {
+        good = subst FieldsGood (sym F-is) (fgood-push F f gs (g .ready .good) p0 ix);
+        within = omega arith;
+        usable = rw length-set (g .ready .usable);
+        most = g .ready .most;
+        blank = λ k h. getD-set-other rows n k r blankField (omega arith) ∙ g .ready .blank k (omega arith);
+      };
+      lists = T-is ∙ sym (add-new sameTail tail-tells T (f ∷ gs) ix) ∙ ap (λ (U : List (List ℕ)). add sameTail U (f ∷ gs)) (g .lists) ∙ sym (ap (addTails (rowTails (take m old))) ed);
+      next = ap (λ (u : ℕ). u + 1) (q .place ∙ e ∙ sym lF ∙ sym (tails-long F) ∙ sym (place-last sameTail tail-tells [] T (f ∷ gs) ix)) ∙ sym (ap (λ (U : List (List ℕ)). tailPlace U (f ∷ gs)) T-is) ∙ sym (ap (tailPlace (rowTails (take (n + 1) (set rows n r)))) ed);
+      found = omega (arith, q .place);
+      low = omega (arith, g .low);
+      long = length-set rows n r ∙ g .long;
+      same = λ k d h. getD-set-other rows n k r d (omega (arith, g .low)) ∙ g .same k d h;
+      rest = λ k d h. getD-set-other rows n k r d (omega arith) ∙ g .rest k d (omega arith);
+    })
 
 pub no-room : (old : List FieldRow) (m cap : ℕ) (fs : List ℕ) (i j : ℕ) (rows : List FieldRow) (n at : ℕ) (r : FieldRow) (new : List FieldRow) (n′ : ℕ) (fin : List FieldRow) (nf : ℕ)
     → Ready old m cap → Laid old m cap fs i rows n at → i ≡ j + 1 → j < length fs → r ≡ record { field = getD fs j 0; next = at; count = length fs - j }
@@ -114,11 +125,12 @@ no-room old m cap fs i j rows n at r new n′ fin nf rd g ei lj er q en el below
     let er′ : r ≡ row-of T f gs = er ∙ row-is fs T i j at ei lj (g .next) in
     let ix : place sameTail T (f ∷ gs) ≡ length T = row-none F f gs (g .ready .good) (λ k h z. absent-in rows n (fieldKey r) hn (q .absent) k h (z ∙ sym (ap fieldKey er′))) in
     let more : length (addTails (rowTails (take m old)) (drop j fs)) ≡ length T + 1 =
-        ap length (ap (addTails (rowTails (take m old))) ed ∙ ap (λ (U : List (List ℕ)). add sameTail U (f ∷ gs)) (sym (g .lists)) ∙ add-new sameTail tail-tells T (f ∷ gs) ix) ∙ length-push T (f ∷ gs) in
+    ap length (ap (addTails (rowTails (take m old))) ed ∙ ap (λ (U : List (List ℕ)). add sameTail U (f ∷ gs)) (sym (g .lists)) ∙ add-new sameTail tail-tells T (f ∷ gs) ix) ∙ length-push T (f ∷ gs) in
     record {
-        rows = same-lists fin old (el ∙ ap length (q .rows) ∙ g .long) (λ k d h. at-k k d h (decLt k m) (decLt k n));
-        count = omega (arith, q .count, g .low);
-        full = omega (arith, q .full, tails-long F, addTails-grows (rowTails (take m old)) j fs, g .ready .usable) }
+      rows = same-lists fin old (el ∙ ap length (q .rows) ∙ g .long) (λ k d h. at-k k d h (decLt k m) (decLt k n));
+      count = omega (arith, q .count, g .low);
+      full = omega (arith, q .full, tails-long F, addTails-grows (rowTails (take m old)) j fs, g .ready .usable);
+    }
   where
     at-k : (k : ℕ) (d : FieldRow) → k < length fin → Dec (k < m) → Dec (k < n) → getD fin k d ≡ getD old k d
     at-k k d h (yes y) z = below k d y ∙ ap (λ (u : List FieldRow). getD u k d) (q .rows) ∙ g .same k d y

@@ -89,13 +89,13 @@ module _ (L : List TypeRow) (F F′ : List FieldRow) (fs : List ℕ) (g : Good L
   pub nodes-same : nodes F′ L ≡ nodes F L
   nodes-same = same-lists (nodes F′ L) (nodes F L) (length-map L (nodeOf F′) ∙ sym (length-map L (nodeOf F)))
       (λ k d h. let l : k < length L = omega (arith, length-map L (nodeOf F′)) in
-        getD-map (nodeOf F′) L k blankType d l ∙ row-same k l ∙ sym (getD-map (nodeOf F) L k blankType d l))
+      getD-map (nodeOf F′) L k blankType d l ∙ row-same k l ∙ sym (getD-map (nodeOf F) L k blankType d l))
 
   key-same : (k : ℕ) → k < length L → nodeKey F′ (nodeOf F (getD L k blankType)) ≡ nodeKey F (nodeOf F (getD L k blankType))
   key-same k l = nodeKey-same F F′ (nodeOf F (getD L k blankType))
       (λ gs z. let q : typeKey (getD L k blankType) ≡ 3 ∷ tailPlace (rowTails F) gs ∷ length gs ∷ [] = g .keys k l ∙ ap (nodeKey F) z in
-        let b : tailPlace (rowTails F) gs ≤ length (rowTails F) = subst (λ (u : ℕ). u ≤ length (rowTails F)) (ap (λ (u : List ℕ). getD u 1 0) q) (structure-first L F g k l (ap (λ (u : List ℕ). getD u 0 0) q)) in
-        ap (λ (U : List (List ℕ)). tailPlace U gs) e ∙ place-front (rowTails F) fs gs b)
+      let b : tailPlace (rowTails F) gs ≤ length (rowTails F) = subst (λ (u : ℕ). u ≤ length (rowTails F)) (ap (λ (u : List ℕ). getD u 1 0) q) (structure-first L F g k l (ap (λ (u : List ℕ). getD u 0 0) q)) in
+      ap (λ (U : List (List ℕ)). tailPlace U gs) e ∙ place-front (rowTails F) fs gs b)
 
   pub good-more : FieldsGood F′ → Good L F′
   good-more fg = record {

@@ -58,9 +58,10 @@ pub undone : {R : Type 0} (blank : R) (m : ℕ) (t t′ t″ : RowList R) → Gr
     → ((k : ℕ) → t′ .count ≤ k → getD (now (t′ .rows)) k blank ≡ blank)
     → Cut blank m t′ t″ → Same t″ t
 undone {R} blank m t t′ t″ g e l b b′ c = record {
-    rows = same-lists (now (t″ .rows)) (now (t .rows)) (c .long ∙ g .long) (λ k d h. at-k k d (omega (arith, c .long, g .long)) (decLt k m) (decLt k (t′ .count)));
-    count = omega (arith, c .count, g .low);
-    cap = c .cap ∙ g .cap }
+  rows = same-lists (now (t″ .rows)) (now (t .rows)) (c .long ∙ g .long) (λ k d h. at-k k d (omega (arith, c .long, g .long)) (decLt k m) (decLt k (t′ .count)));
+  count = omega (arith, c .count, g .low);
+  cap = c .cap ∙ g .cap;
+}
   where
     old : (k : ℕ) (d : R) → k < length (now (t .rows)) → m ≤ k → blank ≡ getD (now (t .rows)) k d
     old k d h n = sym (getD-default (now (t .rows)) k d blank h ∙ b k (omega arith))

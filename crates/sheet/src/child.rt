@@ -6,7 +6,10 @@ ghost use Rattle.grammar.specs.Refusals.{outcome};
 ghost use Rattle.sheet.specs.Kept.{nodesOf, fieldsIn};
 ghost use Rattle.sheet.specs.Figured.{NotKnown};
 ghost use Rattle.sheet.specs.Asked.{Shown, asked, childOf, keyOf, valueOf};
-use crate::row::{TypeRow, ARRAY, DICT, MAYBE};
+use crate::row::ARRAY;
+use crate::row::DICT;
+use crate::row::MAYBE;
+use crate::row::TypeRow;
 use crate::sheet::Sheet;
 use grammar::error::Refusal;
 
@@ -31,7 +34,11 @@ impl<'a> Sheet<'a> {
         ensures answer { λ r. ⌜ outcome r ≡ asked childOf (nodesOf (now (self .entry) .types) (now (self .entry) .fields)) n ⌝ }
     {
         let row = self.container(n)?;
-        if row.kind == ARRAY || row.kind == MAYBE { Ok(row.first) } else { Err(Refusal::WrongKind) }
+        if row.kind == ARRAY || row.kind == MAYBE {
+            Ok(row.first)
+        } else {
+            Err(Refusal::WrongKind)
+        }
     }
 
     // The key of a dictionary.
@@ -40,7 +47,11 @@ impl<'a> Sheet<'a> {
         ensures answer { λ r. ⌜ outcome r ≡ asked keyOf (nodesOf (now (self .entry) .types) (now (self .entry) .fields)) n ⌝ }
     {
         let row = self.container(n)?;
-        if row.kind == DICT { Ok(row.first) } else { Err(Refusal::WrongKind) }
+        if row.kind == DICT {
+            Ok(row.first)
+        } else {
+            Err(Refusal::WrongKind)
+        }
     }
 
     // The value of a dictionary.
@@ -49,6 +60,10 @@ impl<'a> Sheet<'a> {
         ensures answer { λ r. ⌜ outcome r ≡ asked valueOf (nodesOf (now (self .entry) .types) (now (self .entry) .fields)) n ⌝ }
     {
         let row = self.container(n)?;
-        if row.kind == DICT { Ok(row.second) } else { Err(Refusal::WrongKind) }
+        if row.kind == DICT {
+            Ok(row.second)
+        } else {
+            Err(Refusal::WrongKind)
+        }
     }
 }

@@ -7,7 +7,8 @@ ghost use Rattle.grammar.specs.Refusals.{outcome};
 ghost use Rattle.sheet.specs.Kept.{nodesOf, tailsIn};
 ghost use Rattle.sheet.specs.Tails.{tailAt};
 ghost use Rattle.sheet.specs.Asked.{asked, countOf, fieldAt};
-use crate::row::{FieldRow, STRUCTURE};
+use crate::row::FieldRow;
+use crate::row::STRUCTURE;
 use crate::sheet::Sheet;
 use grammar::error::Refusal;
 
@@ -18,7 +19,11 @@ impl<'a> Sheet<'a> {
         ensures answer { λ r. ⌜ outcome r ≡ asked countOf (nodesOf (now (self .entry) .types) (now (self .entry) .fields)) n ⌝ }
     {
         let row = self.container(n)?;
-        if row.kind == STRUCTURE { Ok(row.second) } else { Err(Refusal::WrongKind) }
+        if row.kind == STRUCTURE {
+            Ok(row.second)
+        } else {
+            Err(Refusal::WrongKind)
+        }
     }
 
     // The field at `i`, counted from 0, or none past the end.
@@ -48,6 +53,10 @@ impl<'a> Sheet<'a> {
         ensures same { λ _. ⌜ now (self .exit) ≡ now (self .entry) ⌝ }
         ensures row { λ r. ⌜ BySome r (tailAt (tailsIn (now (self .entry) .fields)) n ≡ []) (λ x. tailAt (tailsIn (now (self .entry) .fields)) n ≡ x .field ∷ tailAt (tailsIn (now (self .entry) .fields)) (x .next)) ⌝ }
     {
-        if n == 0 { None } else { self.field_row(n as usize - 1) }
+        if n == 0 {
+            None
+        } else {
+            self.field_row(n as usize - 1)
+        }
     }
 }

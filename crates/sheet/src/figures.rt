@@ -43,14 +43,26 @@ pub(crate) fn first_figures(n: usize) -> Figures
     ensures { λ r. ⌜ r ≡ getD firstFigures n blankFigures ⌝ }
 {
     let (length, dbus, gvariant, fixed) = FIRST[n];
-    Figures { length, structures: 0, arrays: 0, dbus, gvariant, fixed, maybe: false }
+    Figures {
+        length,
+        structures: 0,
+        arrays: 0,
+        dbus,
+        gvariant,
+        fixed,
+        maybe: false,
+    }
 }
 
 // A length, if a printed form may have it.
 fn form_length(length: usize) -> Result<u16, Refusal>
     ensures { λ r. ⌜ Cases r (λ l. (l ≡ length) × (length ≤ 65535)) (λ e. (e ≡ TooLong) × (65535 < length)) ⌝ }
 {
-    if length > LONGEST_FORM { Err(Refusal::FormTooLong) } else { Ok(length as u16) }
+    if length > LONGEST_FORM {
+        Err(Refusal::FormTooLong)
+    } else {
+        Ok(length as u16)
+    }
 }
 
 // The figures of the array of such elements.
@@ -59,7 +71,13 @@ pub(crate) fn array_figures(part: Figures) -> Result<Figures, Refusal>
     ensures { λ r. ⌜ Cases r (λ f. Short (arrayFigures part) f) (λ e. Long (arrayFigures part) e) ⌝ }
 {
     let length = form_length(1 + part.length as usize)?;
-    Ok(Figures { length, arrays: part.arrays + 1, dbus: 4, fixed: false, ..part })
+    Ok(Figures {
+        length,
+        arrays: part.arrays + 1,
+        dbus: 4,
+        fixed: false,
+        ..part
+    })
 }
 
 // The figures of the maybe of such a child.
@@ -67,7 +85,13 @@ pub(crate) fn maybe_figures(part: Figures) -> Result<Figures, Refusal>
     ensures { λ r. ⌜ Cases r (λ f. Short (maybeFigures part) f) (λ e. Long (maybeFigures part) e) ⌝ }
 {
     let length = form_length(1 + part.length as usize)?;
-    Ok(Figures { length, dbus: 0, fixed: false, maybe: true, ..part })
+    Ok(Figures {
+        length,
+        dbus: 0,
+        fixed: false,
+        maybe: true,
+        ..part
+    })
 }
 
 // The figures of the dictionary of such keys and values.
@@ -110,7 +134,12 @@ pub(crate) fn structure_figures(fields: Figures) -> Result<Figures, Refusal>
     ensures { λ r. ⌜ Cases r (λ f. Short (structureFigures fields) f) (λ e. Long (structureFigures fields) e) ⌝ }
 {
     let length = form_length(2 + fields.length as usize)?;
-    Ok(Figures { length, structures: fields.structures + 1, dbus: 8, ..fields })
+    Ok(Figures {
+        length,
+        structures: fields.structures + 1,
+        dbus: 8,
+        ..fields
+    })
 }
 
 impl<'a> Sheet<'a> {
@@ -144,7 +173,11 @@ impl<'a> Sheet<'a> {
     {
         let figures = self.figures(n, 0)?;
         match format {
-            Format::DBus => if figures.dbus == 0 { Err(Refusal::WrongKind) } else { Ok(figures.dbus) },
+            Format::DBus => if figures.dbus == 0 {
+                Err(Refusal::WrongKind)
+            } else {
+                Ok(figures.dbus)
+            },
             Format::GVariant => Ok(figures.gvariant),
         }
     }

@@ -11,7 +11,11 @@ ghost use Rattle.sheet.specs.Laid.{Ready, Laid, NoRoom};
 ghost use Rattle.sheet.specs.Kept.{nodesOf, tailsIn};
 ghost use Rattle.sheet.specs.Made.{Made};
 ghost use Rattle.sheet.specs.Structured.{Whole, Structured};
-use crate::row::{ByField, ByType, FieldRow, TypeRow, STRUCTURE};
+use crate::row::ByField;
+use crate::row::ByType;
+use crate::row::FieldRow;
+use crate::row::STRUCTURE;
+use crate::row::TypeRow;
 use grammar::error::Refusal;
 use grammar::figures::Figures;
 use rows::RowList;
@@ -50,7 +54,11 @@ fn lay(list: &mut RowList<FieldRow>, fs: &[u16]) -> Option<u16>
     let start = list.len();
     let mut next = 0;
     for i in (0..fs.len()).rev() {
-        let row = FieldRow { field: fs[i], next, count: (fs.len() - i) as u16 };
+        let row = FieldRow {
+            field: fs[i],
+            next,
+            count: (fs.len() - i) as u16,
+        };
         match list.find_or_add(row) {
             Some(at) => next = at as u16 + 1,
             None => {
@@ -63,7 +71,12 @@ fn lay(list: &mut RowList<FieldRow>, fs: &[u16]) -> Option<u16>
 }
 
 // The number of the structure of the fields `fs`; a new one is added, with the field rows that it needs.
-pub(crate) fn file_structure(types: &mut RowList<TypeRow>, fields: &mut RowList<FieldRow>, fs: &[u16], figures: Figures) -> Result<u16, Refusal>
+pub(crate) fn file_structure(
+    types: &mut RowList<TypeRow>,
+    fields: &mut RowList<FieldRow>,
+    fs: &[u16],
+    figures: Figures,
+) -> Result<u16, Refusal>
     requires whole { ⌜ Whole (now types) (now fields) ⌝ }
     requires structure { ⌜ Structured (now types) (now fields) (now fs) figures ⌝ }
     ensures made { λ r. ⌜ Made (now (types .entry)) (now (fields .entry)) (now (types .exit)) (now (fields .exit)) (outcome r) (structurePlaced (now (types .entry) .cap) (now (fields .entry) .cap) (nodesOf (now (types .entry)) (now (fields .entry))) (tailsIn (now (fields .entry))) (now (fs .entry))) ⌝ }
@@ -73,7 +86,12 @@ pub(crate) fn file_structure(types: &mut RowList<TypeRow>, fields: &mut RowList<
     let Some(first) = lay(fields, fs) else {
         return Err(Refusal::NoRows);
     };
-    match types.find_or_add(TypeRow { kind: STRUCTURE, first, second: fs.len() as u16, figures }) {
+    match types.find_or_add(TypeRow {
+        kind: STRUCTURE,
+        first,
+        second: fs.len() as u16,
+        figures,
+    }) {
         Some(i) => Ok(15 + i as u16),
         None => {
             fields.truncate(start, FieldRow::BLANK);

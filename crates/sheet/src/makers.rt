@@ -11,15 +11,33 @@ ghost use Rattle.sheet.specs.Kept.{Fit, nodesOf, tailsIn, typesIn, fieldsIn, n
 ghost use Rattle.sheet.specs.Made.{Made, withTails};
 ghost use Rattle.sheet.specs.Figured.{Short, Long};
 ghost use Rattle.sheet.specs.Structured.{AllParts, Structured};
-use crate::figures::{array_figures, dict_figures, maybe_figures, structure_figures, with_field};
-use crate::lay::{all_known, file_structure, no_unit};
-use crate::row::{ByType, TypeRow, ARRAY, DICT, MAYBE};
+use crate::figures::array_figures;
+use crate::figures::dict_figures;
+use crate::figures::maybe_figures;
+use crate::figures::structure_figures;
+use crate::figures::with_field;
+use crate::lay::all_known;
+use crate::lay::file_structure;
+use crate::lay::no_unit;
+use crate::row::ARRAY;
+use crate::row::ByType;
+use crate::row::DICT;
+use crate::row::MAYBE;
+use crate::row::TypeRow;
 use crate::sheet::Sheet;
 use grammar::error::Refusal;
 use grammar::figures::Figures;
 
 // The figures of no fields.
-const NO_FIELDS: Figures = Figures { length: 0, structures: 0, arrays: 0, dbus: 8, gvariant: 0, fixed: true, maybe: false };
+const NO_FIELDS: Figures = Figures {
+    length: 0,
+    structures: 0,
+    arrays: 0,
+    dbus: 8,
+    gvariant: 0,
+    fixed: true,
+    maybe: false,
+};
 
 impl<'a> Sheet<'a> {
     // The number of a container that is no structure; a new one is added.
@@ -43,7 +61,12 @@ impl<'a> Sheet<'a> {
             return Err(Refusal::UnitPart(0));
         }
         let figures = array_figures(part)?;
-        self.enter(TypeRow { kind: ARRAY, first: n, second: 0, figures })
+        self.enter(TypeRow {
+            kind: ARRAY,
+            first: n,
+            second: 0,
+            figures,
+        })
     }
 
     // The maybe of the number `n`.
@@ -55,7 +78,12 @@ impl<'a> Sheet<'a> {
             return Err(Refusal::UnitPart(0));
         }
         let figures = maybe_figures(part)?;
-        self.enter(TypeRow { kind: MAYBE, first: n, second: 0, figures })
+        self.enter(TypeRow {
+            kind: MAYBE,
+            first: n,
+            second: 0,
+            figures,
+        })
     }
 
     // The dictionary of the numbers `k` and `v`.
@@ -71,7 +99,12 @@ impl<'a> Sheet<'a> {
             return Err(Refusal::UnitPart(1));
         }
         let figures = dict_figures(key, value)?;
-        self.enter(TypeRow { kind: DICT, first: k, second: v, figures })
+        self.enter(TypeRow {
+            kind: DICT,
+            first: k,
+            second: v,
+            figures,
+        })
     }
 
     // The number of the next new container; those below it are known.

@@ -6,8 +6,11 @@ use rows::Row;
 
 // The kinds of container.
 pub const ARRAY: u8 = 1;
+
 pub const DICT: u8 = 2;
+
 pub const STRUCTURE: u8 = 3;
+
 pub const MAYBE: u8 = 4;
 
 // A container: its kind, the numbers of its parts and its figures. An array or a maybe has its child, a dictionary its
@@ -34,12 +37,24 @@ impl TypeRow {
         kind: 0,
         first: 0,
         second: 0,
-        figures: Figures { length: 0, structures: 0, arrays: 0, dbus: 0, gvariant: 0, fixed: false, maybe: false },
+        figures: Figures {
+            length: 0,
+            structures: 0,
+            arrays: 0,
+            dbus: 0,
+            gvariant: 0,
+            fixed: false,
+            maybe: false,
+        },
     };
 }
 
 impl FieldRow {
-    pub const BLANK: FieldRow = FieldRow { field: 0, next: 0, count: 0 };
+    pub const BLANK: FieldRow = FieldRow {
+        field: 0,
+        next: 0,
+        count: 0,
+    };
 }
 
 pub impl Row for TypeRow as ByType {

@@ -9,11 +9,16 @@ ghost use Rattle.rows.specs.Found.{Located};
 ghost use Rattle.book.specs.Plain.{mostTypes, mostFields};
 ghost use Rattle.sheet.specs.Kept.{Kept, blankType};
 ghost use Rattle.sheet.specs.Tails.{blankField};
-use crate::row::{ByField, ByType, FieldRow, TypeRow};
+ghost use Rattle.sheet.specs.Grown.{Cut, Was, Unchanged};
+use crate::row::ByField;
+use crate::row::ByType;
+use crate::row::FieldRow;
+use crate::row::TypeRow;
 use rows::RowList;
 
 // How many rows of each kind are ever used.
 const MOST_TYPES: usize = 65520;
+
 const MOST_FIELDS: usize = 65535;
 
 #[derive(Drop)]
@@ -71,4 +76,26 @@ impl<'a> Sheet<'a> {
     {
         self.fields.row(i)
     }
+
+    // Goes back to the rows that were in use at these counts.
+    pub(crate) fn back(&mut self, types: usize, fields: usize)
+        requires { ⌜ ((t : RowList TypeRow) × (f : RowList FieldRow) × Was t f types fields (now self .types) (now self .fields)) ⌝ }
+        ensures { λ _. ⌜ ((t : RowList TypeRow) (f : RowList FieldRow) → Was t f types fields (now (self .entry) .types) (now (self .entry) .fields) → Unchanged t f (now (self .exit) .types) (now (self .exit) .fields)) ⌝ }
+    {
+        cut(&mut self.types, &mut self.fields, types, fields);
+    }
+}
+
+// Puts the rows from these places on out of use.
+fn cut(
+    types: &mut RowList<TypeRow>,
+    fields: &mut RowList<FieldRow>,
+    types_to: usize,
+    fields_to: usize,
+)
+    ensures types { λ _. ⌜ Cut blankType «types_to» (now (types .entry)) (now (types .exit)) ⌝ }
+    ensures fields { λ _. ⌜ Cut blankField «fields_to» (now (fields .entry)) (now (fields .exit)) ⌝ }
+{
+    types.truncate(types_to, TypeRow::BLANK);
+    fields.truncate(fields_to, FieldRow::BLANK);
 }

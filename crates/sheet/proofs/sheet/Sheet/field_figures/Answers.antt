@@ -46,5 +46,5 @@ returns c =
     let s = c .args .self .now in
     let z : c .loop-i .i ≡ 0 = omega arith in
     let e : c .loop-i .all ≡ fieldFigures (figuresFrom [] (nodesOf (s .types) (s .fields))) (c .args .fs .now) =
-        c .loop-i .inv .2 ∙ ap (λ (u : ℕ). fieldFigures (figuresFrom [] (nodesOf (s .types) (s .fields))) (drop u (c .args .fs .now))) z in
+    c .loop-i .inv .2 ∙ ap (λ (u : ℕ). fieldFigures (figuresFrom [] (nodesOf (s .types) (s .fields))) (drop u (c .args .fs .now))) z in
     record { same = c .loop-i .inv .0; figures = record { figures = e; short = omega (arith, c .loop-i .inv .1, ap (λ (f : Figures). f .length) e) } }

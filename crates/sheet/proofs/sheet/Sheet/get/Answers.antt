@@ -15,9 +15,10 @@ returns-in-None c =
 pub loop-k-again : need.loop-k-again
 loop-k-again c =
     let s = c .args .self .now in
-    let e = c .container .ensures .same in
-    (c .numbered .ensures .same ∙ c .loop-k .inv .0,
-    get-next s _ (c .loop-k .self) (c .args .n) (c .args .i) (c .loop-k .-k) _ (c .in-Continue-row .row) e (c .loop-k .inv .0) (c .in-Continue-row .ensures tt .row) (omega arith) (c .loop-k .inv .1) (c .in-Some .field) (c .in-Some .ensures tt .row))
+    let e = c .container .ensures .same in (
+      c .numbered .ensures .same ∙ c .loop-k .inv .0,
+      get-next s _ (c .loop-k .self) (c .args .n) (c .args .i) (c .loop-k .-k) _ (c .in-Continue-row .row) e (c .loop-k .inv .0) (c .in-Continue-row .ensures tt .row) (omega arith) (c .loop-k .inv .1) (c .in-Some .field) (c .in-Some .ensures tt .row),
+    )
 
 pub returns-in-Some-numbered : need.returns-in-Some-numbered
 returns-in-Some-numbered c =

@@ -3,7 +3,6 @@ use Rattle.sheet.proofs.Makes.{known-bounded, fit-maybe, fit-as, made-as, mayb
 use Rattle.book.specs.Nodes.{maybe}
 use Rattle.sheet.proofs.sheet.Sheet.maybe.Needs as need
 
-
 pub enter-requires : need.enter-requires
 enter-requires c κs =
     let s = c .args .self .now in
