@@ -1,7 +1,7 @@
 -- The calls of the four makers over numbers, test by test: what the code is proved to do first. That this is the book's
 -- call is proved in this crate.
 use mathlib.Core.List.{List, [], _∷_, _++_}
-use mathlib.Core.Bool.{Bool, true, false, cond}
+use mathlib.Core.Bool.{cond}
 use Prim.Native.Nat.{ℕ, _+_}
 use lib.Dec.{eqb, ltb}
 use lib.ListN.{length}
