@@ -15,11 +15,13 @@ use denote.Ref.{now}
 use Rattle.std.proofs.shelf.Lists.{length-push, getD-push, getD-append-left, map-push, getD-past, length-map}
 use Rattle.grammar.specs.declared.figures.Figures.{Figures}
 use Rattle.book.specs.Nodes.{Node, array, maybe, dict, structure, nodeFigures, figuresFrom, Part, Parts, Known, Chain}
+use Rattle.book.proofs.Figured.{figures-push}
 use Rattle.sheet.specs.declared.row.TypeRow.{TypeRow}
 use Rattle.sheet.specs.declared.row.FieldRow.{FieldRow}
 use Rattle.sheet.specs.declared.sheet.Sheet.{Sheet}
-use Rattle.sheet.specs.Tails.{blankField, fieldKey, rowTailsFrom, FieldsGood}
-use Rattle.sheet.specs.Kept.{Good, Sound, Kept, nodes, nodeOf, nodeKey, typeKey, figuresIn, blankType}
+use Rattle.sheet.specs.Tails.{blankField, fieldKey, rowTails, rowTailsFrom, FieldsGood}
+use Rattle.book.specs.Rows.{nodeKey}
+use Rattle.sheet.specs.Kept.{Good, Sound, Kept, nodes, nodeOf, typeKey, figuresIn, blankType}
 
 numbers : IsSet (List ℕ)
 numbers = hedberg (List-discrete ℕ-discrete)
@@ -179,23 +181,18 @@ each-push {A} P d xs y each here k h = go (decLt k (length xs))
         let e : length xs ≡ k = omega (arith, length-push xs y) in
         subst (P k) (sym (getD-push xs y d k e)) (subst (λ (j : ℕ). P j y) e here)
 
-figures-push : (acc : List Figures) (xs : List Node) (y : Node) → figuresFrom acc (xs ++ y ∷ []) ≡ figuresFrom acc xs ++ nodeFigures (figuresFrom acc xs) y ∷ []
-unfolding figuresFrom
-figures-push acc [] y = refl
-figures-push acc (x ∷ xs) y = figures-push (acc ++ nodeFigures acc x ∷ []) xs y
-
 chain-push : (m : ℕ) (b : List Node) (x : Node) → Chain m b → Known (m + length b) x → Chain m (b ++ x ∷ [])
 chain-push m [] x c k = (subst (λ (n : ℕ). Known n x) (add-zero m) k, tt)
 chain-push m (y ∷ b) x c k = (c .0, chain-push (m + 1) b x (c .1) (subst (λ (n : ℕ). Known n x) (omega arith) k))
 
 pub good-push : (L : List TypeRow) (F : List FieldRow) (r : TypeRow) → Good L F
-    → typeKey r ≡ nodeKey F (nodeOf F r)
+    → typeKey r ≡ nodeKey (rowTails F) (nodeOf F r)
     → ((k : ℕ) → k < length L → typeKey (getD L k blankType) ≡ typeKey r → ⊥)
     → r .figures ≡ nodeFigures (figuresFrom [] (nodes F L)) (nodeOf F r)
     → Known (length L) (nodeOf F r)
     → Good (L ++ r ∷ []) F
 good-push L F r g coded absent figure known = record {
-  keys = each-push (λ k x. typeKey x ≡ nodeKey F (nodeOf F x)) blankType L r (g .keys) coded;
+  keys = each-push (λ k x. typeKey x ≡ nodeKey (rowTails F) (nodeOf F x)) blankType L r (g .keys) coded;
   apart = λ j k l h. each-push (λ k x. j < k → typeKey (getD (L ++ r ∷ []) j blankType) ≡ typeKey x → ⊥) blankType L r
       (λ k h l e. g .apart j k l h (ap typeKey (sym (getD-append-left L (r ∷ []) blankType j (omega arith))) ∙ e))
       (λ h e. absent j h (ap typeKey (sym (getD-append-left L (r ∷ []) blankType j h)) ∙ e)) k h l;

@@ -11,7 +11,8 @@ use Rattle.std.proofs.shelf.Lists.{length-push, getD-push, getD-append-left}
 use Rattle.grammar.specs.Lists.{has, place, add}
 use Rattle.book.specs.Makers.{addTails}
 use Rattle.sheet.specs.declared.row.FieldRow.{FieldRow}
-use Rattle.sheet.specs.Tails.{blankField, fieldKey, sameTail, tailAt, tailPlace, rowTailsFrom, rowTails, tailKey, FieldsGood}
+use Rattle.book.specs.Rows.{tailNumber, tailKey}
+use Rattle.sheet.specs.Tails.{blankField, fieldKey, sameTail, tailAt, rowTailsFrom, rowTails, FieldsGood}
 use Rattle.sheet.proofs.Places.{tail-tells, place-none, place-at, place-hit, place-more, place-le}
 use Rattle.sheet.proofs.Keep.{each-push}
 
@@ -55,27 +56,27 @@ tails-at-from T (x ∷ F) (suc k) m e l h =
 pub tails-at : (F : List FieldRow) → FieldsGood F → (k : ℕ) → k < length F → getD (rowTails F) k [] ≡ getD F k blankField .field ∷ tailAt (rowTails F) (getD F k blankField .next)
 tails-at F g k l = tails-at-from [] F k k (sym (zero-add k)) l (g .next k l)
 
-pub tail-hit : (T : List (List ℕ)) (fs : List ℕ) → tailPlace T fs ≤ length T → tailAt T (tailPlace T fs) ≡ fs
+pub tail-hit : (T : List (List ℕ)) (fs : List ℕ) → tailNumber T fs ≤ length T → tailAt T (tailNumber T fs) ≡ fs
 tail-hit T [] h = refl
 tail-hit T (f ∷ fs) h = rw add-one (place-hit sameTail tail-tells [] T (f ∷ fs) (omega arith))
 
-pub tail-more : (T : List (List ℕ)) (fs y : List ℕ) → tailPlace T fs ≤ length T → tailPlace (T ++ y ∷ []) fs ≡ tailPlace T fs
+pub tail-more : (T : List (List ℕ)) (fs y : List ℕ) → tailNumber T fs ≤ length T → tailNumber (T ++ y ∷ []) fs ≡ tailNumber T fs
 tail-more T [] y h = refl
 tail-more T (f ∷ fs) y h = ap (λ (m : ℕ). m + 1) (place-more sameTail tail-tells T (f ∷ fs) y (omega arith))
 
 -- A row for the list f ∷ fs, whose tail has its place.
 abbrev pub row-of : List (List ℕ) → ℕ → List ℕ → FieldRow
-row-of T f fs = record { field = f; next = tailPlace T fs; count = suc (length fs) }
+row-of T f fs = record { field = f; next = tailNumber T fs; count = suc (length fs) }
 
-pub row-held : (F : List FieldRow) (f : ℕ) (fs : List ℕ) → FieldsGood F → tailPlace (rowTails F) fs ≤ length (rowTails F) → (i : ℕ) → i < length F
-    → fieldKey (getD F i blankField) ≡ f ∷ tailPlace (rowTails F) fs ∷ suc (length fs) ∷ [] → place sameTail (rowTails F) (f ∷ fs) ≡ i
+pub row-held : (F : List FieldRow) (f : ℕ) (fs : List ℕ) → FieldsGood F → tailNumber (rowTails F) fs ≤ length (rowTails F) → (i : ℕ) → i < length F
+    → fieldKey (getD F i blankField) ≡ f ∷ tailNumber (rowTails F) fs ∷ suc (length fs) ∷ [] → place sameTail (rowTails F) (f ∷ fs) ≡ i
 row-held F f fs g p i l e =
     let here : getD (rowTails F) i [] ≡ f ∷ fs =
     tails-at F g i l ∙ ap (λ (k : List ℕ). getD k 0 0 ∷ tailAt (rowTails F) (getD k 1 0)) e ∙ ap (λ (u : List ℕ). f ∷ u) (tail-hit (rowTails F) fs p) in
     place-at sameTail tail-tells [] (rowTails F) (f ∷ fs) i (omega (arith, tails-long F)) here (λ j h q. g .apart j i h l (q ∙ sym here))
 
 pub row-none : (F : List FieldRow) (f : ℕ) (fs : List ℕ) → FieldsGood F
-    → ((k : ℕ) → k < length F → fieldKey (getD F k blankField) ≡ f ∷ tailPlace (rowTails F) fs ∷ suc (length fs) ∷ [] → ⊥) → place sameTail (rowTails F) (f ∷ fs) ≡ length (rowTails F)
+    → ((k : ℕ) → k < length F → fieldKey (getD F k blankField) ≡ f ∷ tailNumber (rowTails F) fs ∷ suc (length fs) ∷ [] → ⊥) → place sameTail (rowTails F) (f ∷ fs) ≡ length (rowTails F)
 row-none F f fs g absent =
     place-none sameTail tail-tells [] (rowTails F) (f ∷ fs) (λ j h e. let l : j < length F = omega (arith, tails-long F) in absent j l (g .keys j l ∙ ap (tailKey (rowTails F)) e))
 
@@ -99,15 +100,15 @@ key-more F y g k l =
     let gs : List ℕ = tailAt T (r .next) in
     let e : getD T k [] ≡ r .field ∷ gs = tails-at F g k l in
     let q : fieldKey r ≡ tailKey T (r .field ∷ gs) = g .keys k l ∙ ap (tailKey T) e in
-    let n : r .next ≡ tailPlace T gs = ap (λ (u : List ℕ). getD u 1 0) q in
-    let b : tailPlace T gs ≤ length T = omega (arith, tails-long F, g .next k l) in
+    let n : r .next ≡ tailNumber T gs = ap (λ (u : List ℕ). getD u 1 0) q in
+    let b : tailNumber T gs ≤ length T = omega (arith, tails-long F, g .next k l) in
     ap (tailKey T) e ∙ ap (λ (p : ℕ). r .field ∷ p ∷ suc (length gs) ∷ []) (sym (tail-more T gs y b)) ∙ sym (ap (tailKey (T ++ y ∷ [])) e)
 
-pub tails-added : (F : List FieldRow) (f : ℕ) (fs : List ℕ) → tailPlace (rowTails F) fs ≤ length (rowTails F)
+pub tails-added : (F : List FieldRow) (f : ℕ) (fs : List ℕ) → tailNumber (rowTails F) fs ≤ length (rowTails F)
     → rowTails (F ++ row-of (rowTails F) f fs ∷ []) ≡ rowTails F ++ (f ∷ fs) ∷ []
 tails-added F f fs p = tails-push [] F (row-of (rowTails F) f fs) ∙ ap (λ (u : List ℕ). rowTails F ++ (f ∷ u) ∷ []) (tail-hit (rowTails F) fs p)
 
-pub fgood-push : (F : List FieldRow) (f : ℕ) (fs : List ℕ) → FieldsGood F → tailPlace (rowTails F) fs ≤ length (rowTails F) → place sameTail (rowTails F) (f ∷ fs) ≡ length (rowTails F)
+pub fgood-push : (F : List FieldRow) (f : ℕ) (fs : List ℕ) → FieldsGood F → tailNumber (rowTails F) fs ≤ length (rowTails F) → place sameTail (rowTails F) (f ∷ fs) ≡ length (rowTails F)
     → FieldsGood (F ++ row-of (rowTails F) f fs ∷ [])
 fgood-push F f fs g p new = record {
   keys = subst (λ (U : List (List ℕ)). (k : ℕ) → k < length (F ++ r ∷ []) → fieldKey (getD (F ++ r ∷ []) k blankField) ≡ tailKey U (getD U k [])) (sym eT)

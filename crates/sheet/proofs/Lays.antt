@@ -13,7 +13,8 @@ use Rattle.grammar.specs.Lists.{place, add}
 use Rattle.rows.specs.Found.{Held, Added, Refused, Place, Absent}
 use Rattle.book.specs.Makers.{addTails}
 use Rattle.sheet.specs.declared.row.FieldRow.{FieldRow}
-use Rattle.sheet.specs.Tails.{blankField, fieldKey, sameTail, tailPlace, rowTails, FieldsGood}
+use Rattle.book.specs.Rows.{tailNumber}
+use Rattle.sheet.specs.Tails.{blankField, fieldKey, sameTail, rowTails, FieldsGood}
 use Rattle.sheet.specs.Laid.{Ready, Laid, NoRoom}
 use Rattle.sheet.proofs.Places.{tail-tells, place-last, add-held, add-new}
 use Rattle.sheet.proofs.Laying.{tails-long, row-of, row-held, row-none, addTails-grows, tails-added, fgood-push}
@@ -33,11 +34,11 @@ laid-start old m cap fs r =
     }
 
 -- The row of the tail at j.
-row-is : (fs : List ℕ) (T : List (List ℕ)) (i j at : ℕ) → i ≡ j + 1 → j < length fs → at ≡ tailPlace T (drop i fs)
+row-is : (fs : List ℕ) (T : List (List ℕ)) (i j at : ℕ) → i ≡ j + 1 → j < length fs → at ≡ tailNumber T (drop i fs)
     → _≡_ {A = FieldRow} (record { field = getD fs j 0; next = at; count = length fs - j }) (row-of T (getD fs j 0) (drop i fs))
 row-is fs T i j at e l n =
     ap (λ (u : ℕ). record { field = getD fs j 0; next = u; count = length fs - j }) n
-    ∙ ap (λ (u : ℕ). record { field = getD fs j 0; next = tailPlace T (drop i fs); count = u }) (omega (arith, length-drop i fs))
+    ∙ ap (λ (u : ℕ). record { field = getD fs j 0; next = tailNumber T (drop i fs); count = u }) (omega (arith, length-drop i fs))
 
 absent-in : (rows : List FieldRow) (n : ℕ) (k : List ℕ) → n ≤ length rows → Absent fieldKey rows (min n (length rows)) k
     → (j : ℕ) → j < length (take n rows) → fieldKey (getD (take n rows) j blankField) ≡ k → ⊥
@@ -57,14 +58,14 @@ laid-step old m cap fs i j rows n at r new n′ p g ei lj er (inl q) =
     let lF : length F ≡ n = length-take-le n rows hn in
     let lp : p < n = omega (arith, q .below) in
     let ed : drop j fs ≡ f ∷ gs = drop-more fs j 0 lj ∙ ap (λ (u : ℕ). f ∷ drop u fs) (sym ei) in
-    let p0 : tailPlace T gs ≤ length T = omega (arith, tails-long F, g .next, g .found) in
-    let key : fieldKey (getD F p blankField) ≡ f ∷ tailPlace T gs ∷ suc (length gs) ∷ [] = ap fieldKey (getD-take n rows p blankField lp) ∙ q .same blankField ∙ ap fieldKey (er ∙ row-is fs T i j at ei lj (g .next)) in
+    let p0 : tailNumber T gs ≤ length T = omega (arith, tails-long F, g .next, g .found) in
+    let key : fieldKey (getD F p blankField) ≡ f ∷ tailNumber T gs ∷ suc (length gs) ∷ [] = ap fieldKey (getD-take n rows p blankField lp) ∙ q .same blankField ∙ ap fieldKey (er ∙ row-is fs T i j at ei lj (g .next)) in
     let ix : place sameTail T (f ∷ gs) ≡ p = row-held F f gs (g .ready .good) p0 p (omega arith) key in
     let held : add sameTail T (f ∷ gs) ≡ T = add-held sameTail tail-tells T (f ∷ gs) (omega (arith, tails-long F)) in
     rw (q .rows, q .count) (record {
       ready = g .ready;
       lists = sym held ∙ ap (λ (U : List (List ℕ)). add sameTail U (f ∷ gs)) (g .lists) ∙ sym (ap (addTails (rowTails (take m old))) ed);
-      next = ap (λ (u : ℕ). u + 1) (sym ix) ∙ sym (ap (tailPlace T) ed);
+      next = ap (λ (u : ℕ). u + 1) (sym ix) ∙ sym (ap (tailNumber T) ed);
       found = omega arith;
       low = g .low;
       long = g .long;
@@ -82,7 +83,7 @@ laid-step old m cap fs i j rows n at r new n′ p g ei lj er (inr q) =
     let l : n < length rows = omega (arith, q .room) in
     let room : n < cap = omega (arith, q .room) in
     let ed : drop j fs ≡ f ∷ gs = drop-more fs j 0 lj ∙ ap (λ (u : ℕ). f ∷ drop u fs) (sym ei) in
-    let p0 : tailPlace T gs ≤ length T = omega (arith, tails-long F, g .next, g .found) in
+    let p0 : tailNumber T gs ≤ length T = omega (arith, tails-long F, g .next, g .found) in
     let er′ : r ≡ row-of T f gs = er ∙ row-is fs T i j at ei lj (g .next) in
     let ix : place sameTail T (f ∷ gs) ≡ length T = row-none F f gs (g .ready .good) (λ k h z. absent-in rows n (fieldKey r) hn (q .absent) k h (z ∙ sym (ap fieldKey er′))) in
     let new-is : new ≡ set rows n r = q .rows ∙ ap (λ (u : ℕ). set rows u r) e in
@@ -98,7 +99,7 @@ laid-step old m cap fs i j rows n at r new n′ p g ei lj er (inr q) =
         blank = λ k h. getD-set-other rows n k r blankField (omega arith) ∙ g .ready .blank k (omega arith);
       };
       lists = T-is ∙ sym (add-new sameTail tail-tells T (f ∷ gs) ix) ∙ ap (λ (U : List (List ℕ)). add sameTail U (f ∷ gs)) (g .lists) ∙ sym (ap (addTails (rowTails (take m old))) ed);
-      next = ap (λ (u : ℕ). u + 1) (q .place ∙ e ∙ sym lF ∙ sym (tails-long F) ∙ sym (place-last sameTail tail-tells [] T (f ∷ gs) ix)) ∙ sym (ap (λ (U : List (List ℕ)). tailPlace U (f ∷ gs)) T-is) ∙ sym (ap (tailPlace (rowTails (take (n + 1) (set rows n r)))) ed);
+      next = ap (λ (u : ℕ). u + 1) (q .place ∙ e ∙ sym lF ∙ sym (tails-long F) ∙ sym (place-last sameTail tail-tells [] T (f ∷ gs) ix)) ∙ sym (ap (λ (U : List (List ℕ)). tailNumber U (f ∷ gs)) T-is) ∙ sym (ap (tailNumber (rowTails (take (n + 1) (set rows n r)))) ed);
       found = omega (arith, q .place);
       low = omega (arith, g .low);
       long = length-set rows n r ∙ g .long;

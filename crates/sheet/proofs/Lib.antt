@@ -14,3 +14,4 @@ pub mod Firsts
 pub mod Structs
 pub mod Summed
 pub mod Shown
+pub mod Texts

@@ -14,9 +14,11 @@ use Rattle.book.specs.Nodes.{Node, array, maybe, dict, structure, figuresFrom, 
 use Rattle.book.specs.Makers.{addTails}
 use Rattle.sheet.specs.declared.row.TypeRow.{TypeRow}
 use Rattle.sheet.specs.declared.row.FieldRow.{FieldRow}
-use Rattle.sheet.specs.Tails.{blankField, sameTail, tailAt, tailPlace, rowTails, FieldsGood}
+use Rattle.book.specs.Rows.{tailNumber}
+use Rattle.sheet.specs.Tails.{blankField, sameTail, tailAt, rowTails, FieldsGood}
 use Rattle.sheet.specs.Laid.{Ready, Laid, NoRoom}
-use Rattle.sheet.specs.Kept.{Good, Sound, nodesAt, nodes, nodeBy, nodeOf, nodeKey, typeKey, blankType}
+use Rattle.book.specs.Rows.{nodeKey}
+use Rattle.sheet.specs.Kept.{Good, Sound, nodesAt, nodes, nodeBy, nodeOf, typeKey, blankType}
 use Rattle.sheet.proofs.Places.{tail-tells, place-more}
 use Rattle.sheet.proofs.Laying.{tails-long, tail-hit, add-grows}
 
@@ -46,7 +48,7 @@ places-front : (T : List (List ℕ)) (fs x : List ℕ) → place sameTail T x < 
 places-front T [] x l = refl
 places-front T (f ∷ fs) x l = place-1 (addTails T fs) (f ∷ fs) x (omega (arith, grows T fs, places-front T fs x l)) ∙ places-front T fs x l
 
-place-front : (T : List (List ℕ)) (fs x : List ℕ) → tailPlace T x ≤ length T → tailPlace (addTails T fs) x ≡ tailPlace T x
+place-front : (T : List (List ℕ)) (fs x : List ℕ) → tailNumber T x ≤ length T → tailNumber (addTails T fs) x ≡ tailNumber T x
 place-front T fs [] l = refl
 place-front T fs (y ∷ x) l = ap (λ (u : ℕ). u + 1) (places-front T fs (y ∷ x) (omega arith))
 
@@ -54,19 +56,19 @@ tail-front : (T : List (List ℕ)) (fs : List ℕ) (n : ℕ) → n ≤ length T 
 tail-front T fs zero l = refl
 tail-front T fs (suc n) l = front T fs n l
 
-in-range : (T : List (List ℕ)) (a : ℕ) → a ≡ tailPlace T (tailAt T a) → a ≤ length T
+in-range : (T : List (List ℕ)) (a : ℕ) → a ≡ tailNumber T (tailAt T a) → a ≤ length T
 in-range T zero e = omega arith
 in-range T (suc k) e = go (decLt k (length T))
   where
     go : Dec (k < length T) → suc k ≤ length T
     go (yes y) = y
-    go (no n) = let z : suc k ≡ 0 = e ∙ ap (tailPlace T) (getD-past T k [] (omega arith)) in absurd (omega arith)
+    go (no n) = let z : suc k ≡ 0 = e ∙ ap (tailNumber T) (getD-past T k [] (omega arith)) in absurd (omega arith)
 
 structure-first : (L : List TypeRow) (F : List FieldRow) → Good L F → (k : ℕ) → k < length L → getD L k blankType .kind ≡ 3 → getD L k blankType .first ≤ length (rowTails F)
 structure-first L F g k l e =
     let r : TypeRow = getD L k blankType in
     let n : nodeOf F r ≡ structure (tailAt (rowTails F) (r .first)) = ap (λ (u : ℕ). nodeBy F u (r .first) (r .second)) e in
-    in-range (rowTails F) (r .first) (ap (λ (u : List ℕ). getD u 1 0) (g .keys k l ∙ ap (nodeKey F) n))
+    in-range (rowTails F) (r .first) (ap (λ (u : List ℕ). getD u 1 0) (g .keys k l ∙ ap (nodeKey (rowTails F)) n))
 
 node-same : (F F′ : List FieldRow) (k a b : ℕ) → (k ≡ 3 → tailAt (rowTails F′) a ≡ tailAt (rowTails F) a) → nodeBy F′ k a b ≡ nodeBy F k a b
 node-same F F′ k a b h = go (ℕ-discrete k 3)
@@ -75,7 +77,7 @@ node-same F F′ k a b h = go (ℕ-discrete k 3)
     go (yes e) = ap (λ (u : List ℕ). cond (eqb k 1) (array a) (cond (eqb k 2) (dict a b) (cond (eqb k 3) (structure u) (maybe a)))) (h e)
     go (no n) = rw (ne-eqb k 3 n)
 
-nodeKey-same : (F F′ : List FieldRow) (x : Node) → ((fs : List ℕ) → x ≡ structure fs → tailPlace (rowTails F′) fs ≡ tailPlace (rowTails F) fs) → nodeKey F′ x ≡ nodeKey F x
+nodeKey-same : (F F′ : List FieldRow) (x : Node) → ((fs : List ℕ) → x ≡ structure fs → tailNumber (rowTails F′) fs ≡ tailNumber (rowTails F) fs) → nodeKey (rowTails F′) x ≡ nodeKey (rowTails F) x
 nodeKey-same F F′ (array n) h = refl
 nodeKey-same F F′ (maybe n) h = refl
 nodeKey-same F F′ (dict k v) h = refl
@@ -91,15 +93,15 @@ module _ (L : List TypeRow) (F F′ : List FieldRow) (fs : List ℕ) (g : Good L
       (λ k d h. let l : k < length L = omega (arith, length-map L (nodeOf F′)) in
       getD-map (nodeOf F′) L k blankType d l ∙ row-same k l ∙ sym (getD-map (nodeOf F) L k blankType d l))
 
-  key-same : (k : ℕ) → k < length L → nodeKey F′ (nodeOf F (getD L k blankType)) ≡ nodeKey F (nodeOf F (getD L k blankType))
+  key-same : (k : ℕ) → k < length L → nodeKey (rowTails F′) (nodeOf F (getD L k blankType)) ≡ nodeKey (rowTails F) (nodeOf F (getD L k blankType))
   key-same k l = nodeKey-same F F′ (nodeOf F (getD L k blankType))
-      (λ gs z. let q : typeKey (getD L k blankType) ≡ 3 ∷ tailPlace (rowTails F) gs ∷ length gs ∷ [] = g .keys k l ∙ ap (nodeKey F) z in
-      let b : tailPlace (rowTails F) gs ≤ length (rowTails F) = subst (λ (u : ℕ). u ≤ length (rowTails F)) (ap (λ (u : List ℕ). getD u 1 0) q) (structure-first L F g k l (ap (λ (u : List ℕ). getD u 0 0) q)) in
-      ap (λ (U : List (List ℕ)). tailPlace U gs) e ∙ place-front (rowTails F) fs gs b)
+      (λ gs z. let q : typeKey (getD L k blankType) ≡ 3 ∷ tailNumber (rowTails F) gs ∷ length gs ∷ [] = g .keys k l ∙ ap (nodeKey (rowTails F)) z in
+      let b : tailNumber (rowTails F) gs ≤ length (rowTails F) = subst (λ (u : ℕ). u ≤ length (rowTails F)) (ap (λ (u : List ℕ). getD u 1 0) q) (structure-first L F g k l (ap (λ (u : List ℕ). getD u 0 0) q)) in
+      ap (λ (U : List (List ℕ)). tailNumber U gs) e ∙ place-front (rowTails F) fs gs b)
 
   pub good-more : FieldsGood F′ → Good L F′
   good-more fg = record {
-    keys = λ k l. g .keys k l ∙ sym (key-same k l) ∙ ap (nodeKey F′) (sym (row-same k l));
+    keys = λ k l. g .keys k l ∙ sym (key-same k l) ∙ ap (nodeKey (rowTails F′)) (sym (row-same k l));
     apart = g .apart;
     figures = g .figures ∙ ap (figuresFrom []) (sym nodes-same);
     chain = subst (Chain 0) (sym nodes-same) (g .chain);

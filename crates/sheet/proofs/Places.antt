@@ -1,43 +1,23 @@
 -- Places in a list, by a test of equality that tells.
 use mathlib.Core.Path.{_≡_, refl, sym, ap, _∙_}
 use mathlib.Core.List.{List, [], _∷_, _++_}
-use mathlib.Core.Bool.{Bool, true, false, cond, _&&_, _||_}
+use mathlib.Core.Bool.{Bool, true, false, cond, _||_}
 use Prim.Native.Nat.{ℕ, zero, suc, _+_, _<_, _≤_}
 use native.Mathlib.Omega.{arith}
-use lib.Dec.{eqb}
 use lib.ListN.{length, getD}
-use Rattle.std.proofs.shelf.Tests.{eqb-true, eq-eqb, and-parts, and-from, cond-true, cond-false, or-left}
+use Rattle.std.proofs.shelf.Tests.{cond-true, cond-false}
 use Rattle.std.proofs.shelf.Lists.{length-push, getD-push, getD-append-left}
-use Rattle.grammar.specs.Lists.{sameList, has, place, add}
-use Rattle.book.specs.Nodes.{Node, array, maybe, dict, structure, code, sameNode}
+use Rattle.grammar.specs.Lists.{has, place, add}
+use Rattle.book.proofs.Lists.{Decides, numbers, same-lists}
 use Rattle.sheet.specs.Tails.{sameTail}
 
-pub record Tells {A : Type 0} (same : A → A → Bool) : Type 0 where
-  pub sound : (x y : A) → same x y ≡ true → x ≡ y
-  pub self : (x : A) → same x x ≡ true
-
-module _ {A : Type 0} (same : A → A → Bool) (t : Tells same) where
-  list-sound : (xs ys : List A) → sameList same xs ys ≡ true → xs ≡ ys
-  list-sound [] [] e = refl
-  list-sound [] (y ∷ ys) e = let z : _≡_ {A = ℕ} 0 1 = cc in absurd (omega arith)
-  list-sound (x ∷ xs) [] e = let z : _≡_ {A = ℕ} 0 1 = cc in absurd (omega arith)
-  list-sound (x ∷ xs) (y ∷ ys) e =
-      let p = and-parts (same x y) (sameList same xs ys) e in
-      ap (λ (u : A). u ∷ xs) (t .sound x y (p .0)) ∙ ap (λ (u : List A). y ∷ u) (list-sound xs ys (p .1))
-
-  list-self : (xs : List A) → sameList same xs xs ≡ true
-  list-self [] = refl
-  list-self (x ∷ xs) = and-from (same x x) (sameList same xs xs) (t .self x) (list-self xs)
-
-  pub list-tells : Tells (sameList same)
-  list-tells = record { sound = list-sound; self = list-self }
-
+module _ {A : Type 0} (same : A → A → Bool) (t : Decides same) where
   pub place-none : (d : A) (ks : List A) (k : A) → ((j : ℕ) → j < length ks → getD ks j d ≡ k → ⊥) → place same ks k ≡ length ks
   place-none d [] k h = refl
   place-none d (x ∷ ks) k h = go (same x k) refl (place-none d ks k (λ j l e. h (suc j) (omega arith) e))
     where
       go : (b : Bool) → same x k ≡ b → place same ks k ≡ length ks → cond b 0 (suc (place same ks k)) ≡ suc (length ks)
-      go true e ih = absurd (h 0 (omega arith) (t .sound x k e))
+      go true e ih = absurd (h 0 (omega arith) (t .so x k e))
       go false e ih = ap suc ih
 
   pub place-at : (d : A) (ks : List A) (k : A) (i : ℕ) → i < length ks → getD ks i d ≡ k → ((j : ℕ) → j < i → getD ks j d ≡ k → ⊥) → place same ks k ≡ i
@@ -46,7 +26,7 @@ module _ {A : Type 0} (same : A → A → Bool) (t : Tells same) where
   place-at d (x ∷ ks) k (suc i) l e h = go (same x k) refl (place-at d ks k i (omega arith) e (λ j l e. h (suc j) (omega arith) e))
     where
       go : (b : Bool) → same x k ≡ b → place same ks k ≡ i → cond b 0 (suc (place same ks k)) ≡ suc i
-      go true f ih = absurd (h 0 (omega arith) (t .sound x k f))
+      go true f ih = absurd (h 0 (omega arith) (t .so x k f))
       go false f ih = ap suc ih
 
   pub place-hit : (d : A) (T : List A) (x : A) → place same T x < length T → getD T (place same T x) d ≡ x
@@ -55,7 +35,7 @@ module _ {A : Type 0} (same : A → A → Bool) (t : Tells same) where
     where
       go : (b : Bool) → same y x ≡ b → (place same T x < length T → getD T (place same T x) d ≡ x) → cond b 0 (suc (place same T x)) < suc (length T)
           → getD (y ∷ T) (cond b 0 (suc (place same T x))) d ≡ x
-      go true e ih g = t .sound y x e
+      go true e ih g = t .so y x e
       go false e ih g = ih (omega arith)
 
   pub place-more : (T : List A) (x y : A) → place same T x < length T → place same (T ++ y ∷ []) x ≡ place same T x
@@ -103,32 +83,5 @@ module _ {A : Type 0} (same : A → A → Bool) (t : Tells same) where
   pub add-new : (T : List A) (x : A) → place same T x ≡ length T → add same T x ≡ T ++ x ∷ []
   add-new T x h = cond-false (has same T x) T (T ++ x ∷ []) (not-held T x h)
 
-pub eqb-tells : Tells eqb
-eqb-tells = record { sound = eqb-true; self = λ x. eq-eqb x x refl }
-
-pub tail-tells : Tells sameTail
-tail-tells = list-tells eqb eqb-tells
-
-pub code-inj : (x y : Node) → code x ≡ code y → x ≡ y
-code-inj (array a) (array b) e = cc
-code-inj (array a) (maybe b) e = let z : _≡_ {A = ℕ} 1 4 = cc in absurd (omega arith)
-code-inj (array a) (dict b b′) e = let z : _≡_ {A = ℕ} 1 2 = cc in absurd (omega arith)
-code-inj (array a) (structure b) e = let z : _≡_ {A = ℕ} 1 3 = cc in absurd (omega arith)
-code-inj (maybe a) (array b) e = let z : _≡_ {A = ℕ} 4 1 = cc in absurd (omega arith)
-code-inj (maybe a) (maybe b) e = cc
-code-inj (maybe a) (dict b b′) e = let z : _≡_ {A = ℕ} 4 2 = cc in absurd (omega arith)
-code-inj (maybe a) (structure b) e = let z : _≡_ {A = ℕ} 4 3 = cc in absurd (omega arith)
-code-inj (dict a a′) (array b) e = let z : _≡_ {A = ℕ} 2 1 = cc in absurd (omega arith)
-code-inj (dict a a′) (maybe b) e = let z : _≡_ {A = ℕ} 2 4 = cc in absurd (omega arith)
-code-inj (dict a a′) (dict b b′) e = cc
-code-inj (dict a a′) (structure b) e = let z : _≡_ {A = ℕ} 2 3 = cc in absurd (omega arith)
-code-inj (structure a) (array b) e = let z : _≡_ {A = ℕ} 3 1 = cc in absurd (omega arith)
-code-inj (structure a) (maybe b) e = let z : _≡_ {A = ℕ} 3 4 = cc in absurd (omega arith)
-code-inj (structure a) (dict b b′) e = let z : _≡_ {A = ℕ} 3 2 = cc in absurd (omega arith)
-code-inj (structure a) (structure b) e = cc
-
-pub node-tells : Tells sameNode
-node-tells = record {
-  sound = λ x y e. code-inj x y (tail-tells .sound (code x) (code y) e);
-  self = λ x. tail-tells .self (code x);
-}
+pub tail-tells : Decides sameTail
+tail-tells = same-lists numbers

@@ -22,13 +22,14 @@ use Rattle.sheet.specs.declared.row.TypeRow.{TypeRow}
 use Rattle.sheet.specs.declared.row.FieldRow.{FieldRow}
 use Rattle.sheet.specs.declared.sheet.Sheet.{Sheet}
 use Rattle.sheet.specs.Tails.{blankField, tailAt, rowTails, FieldsGood}
-use Rattle.sheet.specs.Kept.{Sound, nodesAt, nodesOf, fieldsIn, tailsIn, nodeBy, nodeOf, nodeKey, typeKey, blankType}
+use Rattle.book.specs.Rows.{nodeKey}
+use Rattle.sheet.specs.Kept.{Sound, nodesAt, nodesOf, fieldsIn, tailsIn, nodeBy, nodeOf, typeKey, blankType}
 use Rattle.sheet.specs.Figured.{Figured}
 use Rattle.sheet.specs.Asked.{containerAt, asked, itemAt, fieldAt, equalCall, Shows, Shown}
 use Rattle.sheet.proofs.Step.{node-at, nodes-long}
 use Rattle.sheet.proofs.Laying.{tails-at, tails-long}
 
-shows-node : (F : List FieldRow) (x : TypeRow) (y : Node) → typeKey x ≡ nodeKey F y → nodeOf F x ≡ y → Shows F x (some y)
+shows-node : (F : List FieldRow) (x : TypeRow) (y : Node) → typeKey x ≡ nodeKey (rowTails F) y → nodeOf F x ≡ y → Shows F x (some y)
 shows-node F x (array n) e q = (ap (λ (u : List ℕ). getD u 0 0) e, ap (λ (u : List ℕ). getD u 1 0) e)
 shows-node F x (maybe n) e q = (ap (λ (u : List ℕ). getD u 0 0) e, ap (λ (u : List ℕ). getD u 1 0) e)
 shows-node F x (dict k v) e q = (ap (λ (u : List ℕ). getD u 0 0) e, ap (λ (u : List ℕ). getD u 1 0) e, ap (λ (u : List ℕ). getD u 2 0) e)
@@ -46,7 +47,7 @@ shown-row types tn fields fn n x h k g l e =
       known = omega (arith, nodes-long types tn fields fn h);
       shows = rw (le-ltb n 15 g)
           (shows-node (take fn fields) x (getD (nodesAt types tn fields fn) (n - 15) (array 0))
-          (ap typeKey here ∙ k .good .keys (n - 15) i ∙ ap (nodeKey (take fn fields)) (sym (node-at (take tn types) (take fn fields) (n - 15) (array 0) i)))
+          (ap typeKey here ∙ k .good .keys (n - 15) i ∙ ap (nodeKey (rowTails (take fn fields))) (sym (node-at (take tn types) (take fn fields) (n - 15) (array 0) i)))
           (ap (nodeOf (take fn fields)) here ∙ sym (node-at (take tn types) (take fn fields) (n - 15) (array 0) i)));
     }
 

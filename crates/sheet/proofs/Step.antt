@@ -20,8 +20,11 @@ use Rattle.book.specs.Nodes.{Node, sameNode, fieldsOf, tailsOf}
 use Rattle.book.specs.Makers.{placed, addTails}
 use Rattle.sheet.specs.declared.row.TypeRow.{TypeRow}
 use Rattle.sheet.specs.declared.row.FieldRow.{FieldRow}
-use Rattle.sheet.specs.Kept.{Good, Sound, Fit, nodesAt, tailsAt, nodes, nodeBy, nodeOf, nodeKey, typeKey, blankType}
-use Rattle.sheet.proofs.Places.{node-tells, place-at, place-none}
+use Rattle.book.specs.Rows.{nodeKey}
+use Rattle.sheet.specs.Tails.{rowTails}
+use Rattle.sheet.specs.Kept.{Good, Sound, Fit, nodesAt, tailsAt, nodes, nodeBy, nodeOf, typeKey, blankType}
+use Rattle.book.proofs.NodeShapes.{same-nodes}
+use Rattle.sheet.proofs.Places.{place-at, place-none}
 use Rattle.sheet.proofs.Keep.{good-push}
 use Rattle.sheet.proofs.Tailed.{tails-push}
 
@@ -35,21 +38,21 @@ node-at L F j d l = getD-map (nodeOf F) L j blankType d l
 abbrev pub some-node : Node
 some-node = nodeOf [] blankType
 
-key-of-node : (L : List TypeRow) (F : List FieldRow) (r : TypeRow) → Good L F → typeKey r ≡ nodeKey F (nodeOf F r) → (j : ℕ) → j < length L
+key-of-node : (L : List TypeRow) (F : List FieldRow) (r : TypeRow) → Good L F → typeKey r ≡ nodeKey (rowTails F) (nodeOf F r) → (j : ℕ) → j < length L
     → getD (nodes F L) j some-node ≡ nodeOf F r → typeKey (getD L j blankType) ≡ typeKey r
-key-of-node L F r g coded j l e = g .keys j l ∙ ap (nodeKey F) (sym (node-at L F j some-node l) ∙ e) ∙ sym coded
+key-of-node L F r g coded j l e = g .keys j l ∙ ap (nodeKey (rowTails F)) (sym (node-at L F j some-node l) ∙ e) ∙ sym coded
 
-place-held : (L : List TypeRow) (F : List FieldRow) (r : TypeRow) → Good L F → typeKey r ≡ nodeKey F (nodeOf F r) → (i : ℕ) → i < length L
+place-held : (L : List TypeRow) (F : List FieldRow) (r : TypeRow) → Good L F → typeKey r ≡ nodeKey (rowTails F) (nodeOf F r) → (i : ℕ) → i < length L
     → typeKey (getD L i blankType) ≡ typeKey r → place sameNode (nodes F L) (nodeOf F r) ≡ i
 place-held L F r g coded i l e =
-    place-at sameNode node-tells some-node (nodes F L) (nodeOf F r) i (omega (arith, length-map L (nodeOf F)))
+    place-at sameNode same-nodes some-node (nodes F L) (nodeOf F r) i (omega (arith, length-map L (nodeOf F)))
     (node-at L F i some-node l ∙ node-of-key F (getD L i blankType) r e)
     (λ j h f. g .apart j i h l (key-of-node L F r g coded j (omega arith) f ∙ sym e))
 
-place-new : (L : List TypeRow) (F : List FieldRow) (r : TypeRow) → Good L F → typeKey r ≡ nodeKey F (nodeOf F r)
+place-new : (L : List TypeRow) (F : List FieldRow) (r : TypeRow) → Good L F → typeKey r ≡ nodeKey (rowTails F) (nodeOf F r)
     → ((k : ℕ) → k < length L → typeKey (getD L k blankType) ≡ typeKey r → ⊥) → place sameNode (nodes F L) (nodeOf F r) ≡ length (nodes F L)
 place-new L F r g coded absent =
-    place-none sameNode node-tells some-node (nodes F L) (nodeOf F r)
+    place-none sameNode same-nodes some-node (nodes F L) (nodeOf F r)
     (λ j h f. let l : j < length L = omega (arith, length-map L (nodeOf F)) in absent j l (key-of-node L F r g coded j l f))
 
 placed-held : (cap : ℕ) (b : List Node) (x : Node) (i : ℕ) → place sameNode b x ≡ i → i < length b → placed cap b x ≡ (accepted (15 + i), b)

@@ -22,7 +22,8 @@ use Rattle.sheet.specs.declared.sheet.Sheet.{Sheet}
 use Rattle.sheet.specs.Figured.{Short, Long}
 use Rattle.sheet.specs.Tails.{blankField, tailAt, rowTails}
 use Rattle.sheet.specs.Laid.{Ready, Laid, NoRoom}
-use Rattle.sheet.specs.Kept.{Sound, Kept, Fit, nodesOf, tailsIn, typesIn, fieldsIn, nodeOf, nodeKey, typeKey}
+use Rattle.book.specs.Rows.{nodeKey}
+use Rattle.sheet.specs.Kept.{Sound, Kept, Fit, nodesOf, tailsIn, typesIn, fieldsIn, nodeOf, typeKey}
 use Rattle.sheet.specs.Grown.{Same, Grown, Cut, Unchanged}
 use Rattle.sheet.specs.Made.{Made}
 use Rattle.sheet.specs.Structured.{Whole, AllParts, Structured}
@@ -95,7 +96,7 @@ module _ (t : RowList TypeRow) (f f′ : RowList FieldRow) (fs : List ℕ) (whol
 
   fit : Fit (typesIn t) (fieldsIn f′) (row-for fs p whole)
   fit = record {
-    coded = ap (λ (u : ℕ). 3 ∷ u ∷ length fs ∷ []) (d .next) ∙ sym (ap (nodeKey (fieldsIn f′)) is-structure);
+    coded = ap (λ (u : ℕ). 3 ∷ u ∷ length fs ∷ []) (d .next) ∙ sym (ap (nodeKey (tailsIn f′)) is-structure);
     figures = s .figures ∙ ap (λ (b : List Node). nodeFigures (figuresFrom [] b) (structure fs)) (sym same-nodes) ∙ ap (nodeFigures (figuresFrom [] (nodesOf t f′))) (sym is-structure);
     known = subst (Known (length (typesIn t))) (sym is-structure)
         (known-structure (length (typesIn t)) fs (subst (λ (m : ℕ). AllParts m fs) (length-map (typesIn t) (nodeOf (fieldsIn f))) (s .parts)) (s .some));

@@ -9,9 +9,10 @@ use denote.Ref.{now}
 use Rattle.grammar.specs.declared.figures.Figures.{Figures}
 use Rattle.rows.specs.declared.RowList.{RowList}
 use Rattle.book.specs.Nodes.{Node, array, maybe, dict, structure, blankFigures, nodeFigures, figuresFrom, tailsOf, Known, Chain}
+use Rattle.book.specs.Rows.{nodeKey}
 use Rattle.sheet.specs.declared.row.TypeRow.{TypeRow}
 use Rattle.sheet.specs.declared.row.FieldRow.{FieldRow}
-use Rattle.sheet.specs.Tails.{blankField, tailAt, tailPlace, rowTails, FieldsGood}
+use Rattle.sheet.specs.Tails.{blankField, tailAt, rowTails, FieldsGood}
 
 abbrev pub blankType : TypeRow
 blankType = record { kind = 0; first = 0; second = 0; figures = blankFigures }
@@ -32,17 +33,10 @@ nodeOf F r = nodeBy F (r .kind) (r .first) (r .second)
 abbrev pub nodes : List FieldRow → List TypeRow → List Node
 nodes F L = map (nodeOf F) L
 
--- the key of the row of a container
-abbrev pub nodeKey : List FieldRow → Node → List ℕ
-nodeKey F (array n) = 1 ∷ n ∷ 0 ∷ []
-nodeKey F (dict k v) = 2 ∷ k ∷ v ∷ []
-nodeKey F (structure fs) = 3 ∷ tailPlace (rowTails F) fs ∷ length fs ∷ []
-nodeKey F (maybe n) = 4 ∷ n ∷ 0 ∷ []
-
 -- Each type row is that of its container, no two are the same, each one's parts stand before it, and the figures are
 -- right.
 pub record Good (L : List TypeRow) (F : List FieldRow) : Type 0 where
-  pub keys : (k : ℕ) → k < length L → typeKey (getD L k blankType) ≡ nodeKey F (nodeOf F (getD L k blankType))
+  pub keys : (k : ℕ) → k < length L → typeKey (getD L k blankType) ≡ nodeKey (rowTails F) (nodeOf F (getD L k blankType))
   pub apart : (j k : ℕ) → j < k → k < length L → typeKey (getD L j blankType) ≡ typeKey (getD L k blankType) → ⊥
   pub figures : map figuresIn L ≡ figuresFrom [] (nodes F L)
   pub chain : Chain 0 (nodes F L)
@@ -81,6 +75,6 @@ typesIn t = take (t .count) (now (t .rows))
 
 -- A row that may be added to the type rows L, over the field rows F.
 pub record Fit (L : List TypeRow) (F : List FieldRow) (r : TypeRow) : Type 0 where
-  pub coded : typeKey r ≡ nodeKey F (nodeOf F r)
+  pub coded : typeKey r ≡ nodeKey (rowTails F) (nodeOf F r)
   pub figures : r .figures ≡ nodeFigures (figuresFrom [] (nodes F L)) (nodeOf F r)
   pub known : Known (length L) (nodeOf F r)

@@ -5,7 +5,8 @@ use Prim.Native.Nat.{ℕ, _<_, _≤_}
 use lib.ListN.{length, getD, take, drop}
 use Rattle.book.specs.Makers.{addTails}
 use Rattle.sheet.specs.declared.row.FieldRow.{FieldRow}
-use Rattle.sheet.specs.Tails.{blankField, rowTails, tailPlace, FieldsGood}
+use Rattle.book.specs.Rows.{tailNumber}
+use Rattle.sheet.specs.Tails.{blankField, rowTails, FieldsGood}
 
 -- Field rows to which a list may be laid: good, and blank past the count.
 pub record Ready (rows : List FieldRow) (n cap : ℕ) : Type 0 where
@@ -19,7 +20,7 @@ pub record Ready (rows : List FieldRow) (n cap : ℕ) : Type 0 where
 pub record Laid (old : List FieldRow) (m cap : ℕ) (fs : List ℕ) (i : ℕ) (new : List FieldRow) (n at : ℕ) : Type 0 where
   pub ready : Ready new n cap
   pub lists : rowTails (take n new) ≡ addTails (rowTails (take m old)) (drop i fs)
-  pub next : at ≡ tailPlace (rowTails (take n new)) (drop i fs)
+  pub next : at ≡ tailNumber (rowTails (take n new)) (drop i fs)
   pub found : at ≤ n
   pub low : m ≤ n
   pub long : length new ≡ length old

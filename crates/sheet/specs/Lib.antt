@@ -7,3 +7,4 @@ pub mod Figured
 pub mod Structured
 pub mod Asked
 pub mod Format
+pub mod Called

@@ -5,7 +5,8 @@ use mathlib.Core.Bool.{Bool}
 use Prim.Native.Nat.{ℕ, zero, suc, _+_, _<_, _≤_}
 use lib.Dec.{eqb}
 use lib.ListN.{length, getD}
-use Rattle.grammar.specs.Lists.{sameList, place}
+use Rattle.grammar.specs.Lists.{sameList}
+use Rattle.book.specs.Rows.{tailKey}
 use Rattle.sheet.specs.declared.row.FieldRow.{FieldRow}
 
 abbrev pub blankField : FieldRow
@@ -22,11 +23,6 @@ abbrev pub tailAt : List (List ℕ) → ℕ → List ℕ
 tailAt T zero = []
 tailAt T (suc i) = getD T i []
 
--- the place of a tail in T; past all where it is not in T
-abbrev pub tailPlace : List (List ℕ) → List ℕ → ℕ
-tailPlace T [] = 0
-tailPlace T (f ∷ fs) = place sameTail T (f ∷ fs) + 1
-
 -- the tails that field rows hold, each from the rows before it
 unfoldable pub rowTailsFrom : List (List ℕ) → List FieldRow → List (List ℕ)
 rowTailsFrom T [] = T
@@ -34,11 +30,6 @@ rowTailsFrom T (r ∷ rs) = rowTailsFrom (T ++ (r .field ∷ tailAt T (r .next))
 
 abbrev pub rowTails : List FieldRow → List (List ℕ)
 rowTails F = rowTailsFrom [] F
-
--- the key of the row that holds a tail
-abbrev pub tailKey : List (List ℕ) → List ℕ → List ℕ
-tailKey T [] = 0 ∷ 0 ∷ 0 ∷ []
-tailKey T (f ∷ fs) = f ∷ tailPlace T fs ∷ suc (length fs) ∷ []
 
 -- Each field row is that of its tail, and no tail stands twice.
 pub record FieldsGood (F : List FieldRow) : Type 0 where
