@@ -9,6 +9,8 @@ ghost use Rattle.book.specs.Nodes.{fieldsOf, fieldFigures, figuresFrom};
 ghost use Rattle.book.specs.Makers.{placed, arrayCall, maybeCall, dictCall, structurePlaced, structureCall};
 ghost use Rattle.sheet.specs.Kept.{Fit, nodesOf, tailsIn, typesIn, fieldsIn, nodeOf};
 ghost use Rattle.sheet.specs.Made.{Made, withTails};
+ghost use Rattle.sheet.specs.Called.{Called};
+ghost use Rattle.book.specs.Plain.{array as arrayOf, maybe as maybeOf, dict as dictOf, structure as structureOf};
 ghost use Rattle.sheet.specs.Figured.{Short, Long};
 ghost use Rattle.sheet.specs.Structured.{AllParts, Structured};
 use crate::figures::array_figures;
@@ -54,7 +56,8 @@ impl<'a> Sheet<'a> {
 
     // The array of the number `n`.
     pub fn array(&mut self, n: u16) -> Result<u16, Refusal>
-        ensures { λ r. ⌜ Made (now (self .entry) .types) (now (self .entry) .fields) (now (self .exit) .types) (now (self .exit) .fields) (outcome r) (withTails (tailsIn (now (self .entry) .fields)) (arrayCall (now (self .entry) .types .cap) (nodesOf (now (self .entry) .types) (now (self .entry) .fields)) n)) ⌝ }
+        ensures called { λ r. ⌜ Called (now (self .entry) .types) (now (self .entry) .fields) (now (self .exit) .types) (now (self .exit) .fields) (outcome r) (arrayOf n) ⌝ }
+        ensures made { λ r. ⌜ Made (now (self .entry) .types) (now (self .entry) .fields) (now (self .exit) .types) (now (self .exit) .fields) (outcome r) (withTails (tailsIn (now (self .entry) .fields)) (arrayCall (now (self .entry) .types .cap) (nodesOf (now (self .entry) .types) (now (self .entry) .fields)) n)) ⌝ }
     {
         let part = self.figures(n, 0)?;
         if n == 0 {
@@ -71,7 +74,8 @@ impl<'a> Sheet<'a> {
 
     // The maybe of the number `n`.
     pub fn maybe(&mut self, n: u16) -> Result<u16, Refusal>
-        ensures { λ r. ⌜ Made (now (self .entry) .types) (now (self .entry) .fields) (now (self .exit) .types) (now (self .exit) .fields) (outcome r) (withTails (tailsIn (now (self .entry) .fields)) (maybeCall (now (self .entry) .types .cap) (nodesOf (now (self .entry) .types) (now (self .entry) .fields)) n)) ⌝ }
+        ensures called { λ r. ⌜ Called (now (self .entry) .types) (now (self .entry) .fields) (now (self .exit) .types) (now (self .exit) .fields) (outcome r) (maybeOf n) ⌝ }
+        ensures made { λ r. ⌜ Made (now (self .entry) .types) (now (self .entry) .fields) (now (self .exit) .types) (now (self .exit) .fields) (outcome r) (withTails (tailsIn (now (self .entry) .fields)) (maybeCall (now (self .entry) .types .cap) (nodesOf (now (self .entry) .types) (now (self .entry) .fields)) n)) ⌝ }
     {
         let part = self.figures(n, 0)?;
         if n == 0 {
@@ -88,7 +92,8 @@ impl<'a> Sheet<'a> {
 
     // The dictionary of the numbers `k` and `v`.
     pub fn dict(&mut self, k: u16, v: u16) -> Result<u16, Refusal>
-        ensures { λ r. ⌜ Made (now (self .entry) .types) (now (self .entry) .fields) (now (self .exit) .types) (now (self .exit) .fields) (outcome r) (withTails (tailsIn (now (self .entry) .fields)) (dictCall (now (self .entry) .types .cap) (nodesOf (now (self .entry) .types) (now (self .entry) .fields)) k v)) ⌝ }
+        ensures called { λ r. ⌜ Called (now (self .entry) .types) (now (self .entry) .fields) (now (self .exit) .types) (now (self .exit) .fields) (outcome r) (dictOf k v) ⌝ }
+        ensures made { λ r. ⌜ Made (now (self .entry) .types) (now (self .entry) .fields) (now (self .exit) .types) (now (self .exit) .fields) (outcome r) (withTails (tailsIn (now (self .entry) .fields)) (dictCall (now (self .entry) .types .cap) (nodesOf (now (self .entry) .types) (now (self .entry) .fields)) k v)) ⌝ }
     {
         let key = self.figures(k, 0)?;
         let value = self.figures(v, 1)?;
@@ -139,7 +144,8 @@ impl<'a> Sheet<'a> {
 
     // The structure of the numbers `fs`.
     pub fn structure(&mut self, fs: &[u16]) -> Result<u16, Refusal>
-        ensures { λ r. ⌜ Made (now (self .entry) .types) (now (self .entry) .fields) (now (self .exit) .types) (now (self .exit) .fields) (outcome r) (structureCall (now (self .entry) .types .cap) (now (self .entry) .fields .cap) (nodesOf (now (self .entry) .types) (now (self .entry) .fields)) (tailsIn (now (self .entry) .fields)) (now (fs .entry))) ⌝ }
+        ensures called { λ r. ⌜ Called (now (self .entry) .types) (now (self .entry) .fields) (now (self .exit) .types) (now (self .exit) .fields) (outcome r) (structureOf (now (fs .entry))) ⌝ }
+        ensures made { λ r. ⌜ Made (now (self .entry) .types) (now (self .entry) .fields) (now (self .exit) .types) (now (self .exit) .fields) (outcome r) (structureCall (now (self .entry) .types .cap) (now (self .entry) .fields .cap) (nodesOf (now (self .entry) .types) (now (self .entry) .fields)) (tailsIn (now (self .entry) .fields)) (now (fs .entry))) ⌝ }
     {
         all_known(fs, self.next_number())?;
         no_unit(fs)?;
