@@ -15,3 +15,4 @@ pub mod Structs
 pub mod Summed
 pub mod Shown
 pub mod Texts
+pub mod Opening

@@ -1,13 +1,13 @@
 -- A sheet and the plain book of its texts.
 use mathlib.Core.Path.{_≡_}
-use mathlib.Core.List.{List, map}
+use mathlib.Core.List.{List, [], map}
 use Prim.Native.Nat.{ℕ, _<_, _≤_}
 use lib.ListN.{length, getD}
 use denote.Ref.{now}
 use Rattle.grammar.specs.Shape.{Text}
 use Rattle.grammar.specs.Figures.{textFigures}
 use Rattle.rows.specs.declared.RowList.{RowList}
-use Rattle.book.specs.Plain.{Answer, Call, Limits, call, tailsOf}
+use Rattle.book.specs.Plain.{Answer, Call, Limits, opened, call, tailsOf}
 use Rattle.book.specs.Nodes.{textsOf}
 use Rattle.book.specs.Rows.{typeKeyOf, fieldKeyOf}
 use Rattle.sheet.specs.declared.row.TypeRow.{TypeRow}
@@ -43,3 +43,11 @@ pub record Called (t : RowList TypeRow) (f : RowList FieldRow) (t′ : RowList T
   pub fields-long : length (now (f′ .rows)) ≡ length (now (f .rows))
   pub stands : Stands t′ f′ (bookOf t′ f′)
   pub unchanged : OnRefusal r (Unchanged t f t′ f′)
+
+-- Opening on so many lent rows of each kind gives the empty book.
+pub record Opened (types fields : ℕ) (t : RowList TypeRow) (f : RowList FieldRow) : Type 0 where
+  pub book : bookOf t f ≡ []
+  pub limits : limitsOf t f ≡ opened types fields
+  pub types-long : length (now (t .rows)) ≡ types
+  pub fields-long : length (now (f .rows)) ≡ fields
+  pub stands : Stands t f []

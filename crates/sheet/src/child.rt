@@ -5,7 +5,9 @@ ghost use Rattle.std.specs.Results.{Cases};
 ghost use Rattle.grammar.specs.Refusals.{outcome};
 ghost use Rattle.sheet.specs.Kept.{nodesOf, fieldsIn};
 ghost use Rattle.sheet.specs.Figured.{NotKnown};
-ghost use Rattle.sheet.specs.Asked.{Shown, asked, childOf, keyOf, valueOf};
+ghost use Rattle.sheet.specs.Asked.{Shown};
+ghost use Rattle.sheet.specs.Called.{bookOf};
+ghost use Rattle.book.specs.Questions.{childOf, keyOf, valueOf};
 use crate::row::ARRAY;
 use crate::row::DICT;
 use crate::row::MAYBE;
@@ -31,7 +33,7 @@ impl<'a> Sheet<'a> {
     // The child of an array or a maybe.
     pub fn child(&mut self, n: u16) -> Result<u16, Refusal>
         ensures same { λ _. ⌜ now (self .exit) ≡ now (self .entry) ⌝ }
-        ensures answer { λ r. ⌜ outcome r ≡ asked childOf (nodesOf (now (self .entry) .types) (now (self .entry) .fields)) n ⌝ }
+        ensures answer { λ r. ⌜ outcome r ≡ childOf (bookOf (now (self .entry) .types) (now (self .entry) .fields)) n ⌝ }
     {
         let row = self.container(n)?;
         if row.kind == ARRAY || row.kind == MAYBE {
@@ -44,7 +46,7 @@ impl<'a> Sheet<'a> {
     // The key of a dictionary.
     pub fn key(&mut self, n: u16) -> Result<u16, Refusal>
         ensures same { λ _. ⌜ now (self .exit) ≡ now (self .entry) ⌝ }
-        ensures answer { λ r. ⌜ outcome r ≡ asked keyOf (nodesOf (now (self .entry) .types) (now (self .entry) .fields)) n ⌝ }
+        ensures answer { λ r. ⌜ outcome r ≡ keyOf (bookOf (now (self .entry) .types) (now (self .entry) .fields)) n ⌝ }
     {
         let row = self.container(n)?;
         if row.kind == DICT {
@@ -57,7 +59,7 @@ impl<'a> Sheet<'a> {
     // The value of a dictionary.
     pub fn value(&mut self, n: u16) -> Result<u16, Refusal>
         ensures same { λ _. ⌜ now (self .exit) ≡ now (self .entry) ⌝ }
-        ensures answer { λ r. ⌜ outcome r ≡ asked valueOf (nodesOf (now (self .entry) .types) (now (self .entry) .fields)) n ⌝ }
+        ensures answer { λ r. ⌜ outcome r ≡ valueOf (bookOf (now (self .entry) .types) (now (self .entry) .fields)) n ⌝ }
     {
         let row = self.container(n)?;
         if row.kind == DICT {

@@ -1,8 +1,8 @@
 // Signatures of one sheet, compared.
 ghost use mathlib.Core.Path.{_≡_};
 ghost use Rattle.grammar.specs.Refusals.{outcome};
-ghost use Rattle.sheet.specs.Kept.{nodesOf};
-ghost use Rattle.sheet.specs.Asked.{equalCall};
+ghost use Rattle.sheet.specs.Called.{bookOf};
+ghost use Rattle.book.specs.Questions.{equalOf};
 use crate::sheet::Sheet;
 use grammar::error::Refusal;
 
@@ -10,7 +10,7 @@ impl<'a> Sheet<'a> {
     // Whether two numbers are those of equal signatures.
     pub fn eq(&mut self, a: u16, b: u16) -> Result<bool, Refusal>
         ensures same { λ _. ⌜ now (self .exit) ≡ now (self .entry) ⌝ }
-        ensures answer { λ r. ⌜ outcome r ≡ equalCall (nodesOf (now (self .entry) .types) (now (self .entry) .fields)) a b ⌝ }
+        ensures answer { λ r. ⌜ outcome r ≡ equalOf (bookOf (now (self .entry) .types) (now (self .entry) .fields)) a b ⌝ }
     {
         self.figures(a, 0)?;
         self.figures(b, 1)?;

@@ -4,9 +4,10 @@ ghost use mathlib.Core.List.{[], _∷_};
 ghost use Prim.Native.Nat.{ℕ};
 ghost use Rattle.std.specs.Options.{Cases as BySome};
 ghost use Rattle.grammar.specs.Refusals.{outcome};
-ghost use Rattle.sheet.specs.Kept.{nodesOf, tailsIn};
+ghost use Rattle.sheet.specs.Kept.{tailsIn};
 ghost use Rattle.sheet.specs.Tails.{tailAt};
-ghost use Rattle.sheet.specs.Asked.{asked, countOf, fieldAt};
+ghost use Rattle.sheet.specs.Called.{bookOf};
+ghost use Rattle.book.specs.Questions.{lenOf, getOf};
 use crate::row::FieldRow;
 use crate::row::STRUCTURE;
 use crate::sheet::Sheet;
@@ -16,7 +17,7 @@ impl<'a> Sheet<'a> {
     // How many fields a structure has.
     pub fn len(&mut self, n: u16) -> Result<u16, Refusal>
         ensures same { λ _. ⌜ now (self .exit) ≡ now (self .entry) ⌝ }
-        ensures answer { λ r. ⌜ outcome r ≡ asked countOf (nodesOf (now (self .entry) .types) (now (self .entry) .fields)) n ⌝ }
+        ensures answer { λ r. ⌜ outcome r ≡ lenOf (bookOf (now (self .entry) .types) (now (self .entry) .fields)) n ⌝ }
     {
         let row = self.container(n)?;
         if row.kind == STRUCTURE {
@@ -29,7 +30,7 @@ impl<'a> Sheet<'a> {
     // The field at `i`, counted from 0, or none past the end.
     pub fn get(&mut self, n: u16, i: usize) -> Result<Option<u16>, Refusal>
         ensures same { λ _. ⌜ now (self .exit) ≡ now (self .entry) ⌝ }
-        ensures answer { λ r. ⌜ outcome r ≡ asked (fieldAt i) (nodesOf (now (self .entry) .types) (now (self .entry) .fields)) n ⌝ }
+        ensures answer { λ r. ⌜ outcome r ≡ getOf (bookOf (now (self .entry) .types) (now (self .entry) .fields)) n i ⌝ }
     {
         let row = self.container(n)?;
         if row.kind != STRUCTURE {

@@ -8,8 +8,10 @@ ghost use Rattle.grammar.specs.declared.error.Refusal.the-variants.{FormTooLong
 ghost use Rattle.book.specs.Nodes.{firstFigures, blankFigures, arrayFigures, maybeFigures, dictFigures, withField, structureFigures};
 ghost use Rattle.sheet.specs.Figured.{Bounded, Short, Long, Figured, NotKnown};
 ghost use Rattle.sheet.specs.Kept.{nodesOf};
-ghost use Rattle.sheet.specs.Asked.{figured, alignmentOf};
-ghost use Rattle.grammar.specs.Refusals.{outcome, accepted};
+ghost use Rattle.sheet.specs.Called.{bookOf};
+ghost use Rattle.sheet.specs.Format.{formatOf};
+ghost use Rattle.book.specs.Questions.{stringLengthOf, fixedOf, maybeOf, depthsOf, alignmentIn, alignmentOf};
+ghost use Rattle.grammar.specs.Refusals.{outcome};
 use crate::serialized::Format;
 use crate::sheet::Sheet;
 use grammar::error::Refusal;
@@ -142,6 +144,16 @@ pub(crate) fn structure_figures(fields: Figures) -> Result<Figures, Refusal>
     })
 }
 
+// The alignment among the figures; 0 is none.
+fn alignment_in(figures: Figures, format: Format) -> u8
+    ensures { λ r. ⌜ r ≡ alignmentIn (formatOf format) figures ⌝ }
+{
+    match format {
+        Format::DBus => figures.dbus,
+        Format::GVariant => figures.gvariant,
+    }
+}
+
 impl<'a> Sheet<'a> {
     // The figures of the number `n`, which stands at `position` among the numbers given.
     pub(crate) fn figures(&mut self, n: u16, position: usize) -> Result<Figures, Refusal>
@@ -160,7 +172,7 @@ impl<'a> Sheet<'a> {
     // The length of the printed form.
     pub fn string_len(&mut self, n: u16) -> Result<u16, Refusal>
         ensures same { λ _. ⌜ now (self .exit) ≡ now (self .entry) ⌝ }
-        ensures answer { λ r. ⌜ outcome r ≡ figured (λ f. accepted (f .length)) (nodesOf (now (self .entry) .types) (now (self .entry) .fields)) n ⌝ }
+        ensures answer { λ r. ⌜ outcome r ≡ stringLengthOf (bookOf (now (self .entry) .types) (now (self .entry) .fields)) n ⌝ }
     {
         let figures = self.figures(n, 0)?;
         Ok(figures.length)
@@ -169,23 +181,21 @@ impl<'a> Sheet<'a> {
     // The alignment in a format; a maybe has none in D-Bus.
     pub fn alignment(&mut self, n: u16, format: Format) -> Result<u8, Refusal>
         ensures same { λ _. ⌜ now (self .exit) ≡ now (self .entry) ⌝ }
-        ensures answer { λ r. ⌜ outcome r ≡ figured (alignmentOf format) (nodesOf (now (self .entry) .types) (now (self .entry) .fields)) n ⌝ }
+        ensures answer { λ r. ⌜ outcome r ≡ alignmentOf (formatOf format) (bookOf (now (self .entry) .types) (now (self .entry) .fields)) n ⌝ }
     {
         let figures = self.figures(n, 0)?;
-        match format {
-            Format::DBus => if figures.dbus == 0 {
-                Err(Refusal::WrongKind)
-            } else {
-                Ok(figures.dbus)
-            },
-            Format::GVariant => Ok(figures.gvariant),
+        let alignment = alignment_in(figures, format);
+        if alignment == 0 {
+            Err(Refusal::WrongKind)
+        } else {
+            Ok(alignment)
         }
     }
 
     // Whether each value has the same size.
     pub fn is_fixed_sized(&mut self, n: u16) -> Result<bool, Refusal>
         ensures same { λ _. ⌜ now (self .exit) ≡ now (self .entry) ⌝ }
-        ensures answer { λ r. ⌜ outcome r ≡ figured (λ f. accepted (f .fixed)) (nodesOf (now (self .entry) .types) (now (self .entry) .fields)) n ⌝ }
+        ensures answer { λ r. ⌜ outcome r ≡ fixedOf (bookOf (now (self .entry) .types) (now (self .entry) .fields)) n ⌝ }
     {
         let figures = self.figures(n, 0)?;
         Ok(figures.fixed)
@@ -194,7 +204,7 @@ impl<'a> Sheet<'a> {
     // Whether the signature is or holds a maybe.
     pub fn contains_maybe(&mut self, n: u16) -> Result<bool, Refusal>
         ensures same { λ _. ⌜ now (self .exit) ≡ now (self .entry) ⌝ }
-        ensures answer { λ r. ⌜ outcome r ≡ figured (λ f. accepted (f .maybe)) (nodesOf (now (self .entry) .types) (now (self .entry) .fields)) n ⌝ }
+        ensures answer { λ r. ⌜ outcome r ≡ maybeOf (bookOf (now (self .entry) .types) (now (self .entry) .fields)) n ⌝ }
     {
         let figures = self.figures(n, 0)?;
         Ok(figures.maybe)
@@ -203,7 +213,7 @@ impl<'a> Sheet<'a> {
     // How deep structures are nested, and how deep arrays and dictionaries.
     pub fn depths(&mut self, n: u16) -> Result<(u16, u16), Refusal>
         ensures same { λ _. ⌜ now (self .exit) ≡ now (self .entry) ⌝ }
-        ensures answer { λ r. ⌜ outcome r ≡ figured (λ f. accepted (f .structures, f .arrays)) (nodesOf (now (self .entry) .types) (now (self .entry) .fields)) n ⌝ }
+        ensures answer { λ r. ⌜ outcome r ≡ depthsOf (bookOf (now (self .entry) .types) (now (self .entry) .fields)) n ⌝ }
     {
         let figures = self.figures(n, 0)?;
         Ok((figures.structures, figures.arrays))

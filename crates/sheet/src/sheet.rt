@@ -6,10 +6,10 @@ ghost use lib.ListN.{length, getD};
 ghost use denote.Ref.{now};
 ghost use Rattle.std.specs.Options.{Cases as BySome};
 ghost use Rattle.rows.specs.Found.{Located};
-ghost use Rattle.book.specs.Plain.{mostTypes, mostFields};
 ghost use Rattle.sheet.specs.Kept.{Kept, blankType};
 ghost use Rattle.sheet.specs.Tails.{blankField};
 ghost use Rattle.sheet.specs.Grown.{Cut, Was, Unchanged};
+ghost use Rattle.sheet.specs.Called.{Opened};
 use crate::row::ByField;
 use crate::row::ByType;
 use crate::row::FieldRow;
@@ -37,14 +37,7 @@ pub struct Sheet<'a> {
 impl<'a> Sheet<'a> {
     // An empty sheet on the lent rows, which are all made blank.
     pub fn open(types: &'a mut [TypeRow], fields: &'a mut [FieldRow]) -> Sheet<'a>
-        ensures types_count { λ r. ⌜ r .types .count ≡ 0 ⌝ }
-        ensures types_cap { λ r. ⌜ r .types .cap ≡ min (length (now (types .entry))) mostTypes ⌝ }
-        ensures types_long { λ r. ⌜ length (now (r .types .rows)) ≡ length (now (types .entry)) ⌝ }
-        ensures types_blank { λ r. ⌜ ((k : ℕ) (d : TypeRow) → k < length (now (r .types .rows)) → getD (now (r .types .rows)) k d ≡ blankType) ⌝ }
-        ensures fields_count { λ r. ⌜ r .fields .count ≡ 0 ⌝ }
-        ensures fields_cap { λ r. ⌜ r .fields .cap ≡ min (length (now (fields .entry))) mostFields ⌝ }
-        ensures fields_long { λ r. ⌜ length (now (r .fields .rows)) ≡ length (now (fields .entry)) ⌝ }
-        ensures fields_blank { λ r. ⌜ ((k : ℕ) (d : FieldRow) → k < length (now (r .fields .rows)) → getD (now (r .fields .rows)) k d ≡ blankField) ⌝ }
+        ensures { λ r. ⌜ Opened (length (now (types .entry))) (length (now (fields .entry))) (r .types) (r .fields) ⌝ }
     {
         Sheet {
             types: RowList::open(types, TypeRow::BLANK, MOST_TYPES),

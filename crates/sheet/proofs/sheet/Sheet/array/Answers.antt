@@ -45,7 +45,7 @@ returns c =
     let s = c .args .self .now in
     let t = c .enter .last .self in
     let m =
-        made-as s (c .figures .last .self) (t .types) (t .fields) _ (array (c .args .n)) _ (c .figures .ensures .same)
-        (array-good (s .types .cap) (nodesOf (s .types) (s .fields)) (c .args .n) _ (c .in-Continue-part .ensures tt .figures) (c .if-n-eq0 .left) (c .in-Continue-figures .ensures tt .short)) (c .enter .ensures)
+    made-as s (c .figures .last .self) (t .types) (t .fields) _ (array (c .args .n)) _ (c .figures .ensures .same)
+    (array-good (s .types .cap) (nodesOf (s .types) (s .fields)) (c .args .n) _ (c .in-Continue-part .ensures tt .figures) (c .if-n-eq0 .left) (c .in-Continue-figures .ensures tt .short)) (c .enter .ensures)
     in
     record { called = called-array s t _ (c .args .n) m; made = m }

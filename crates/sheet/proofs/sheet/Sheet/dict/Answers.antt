@@ -21,8 +21,8 @@ returns-in-Break-value c =
     let p = err-from-errBy (c .from-residual-in-Break-value .result) (c .from-residual-in-Break-value .ensures .1) in
     let u = unknown-as s _ (c .args .v) 1 _ (c .figures .ensures .same) (c .in-Break-value .ensures tt .figures) in
     let m =
-        made-still s (c .figures-2 .last .self) 3 (1 ∷ []) _ (c .figures-2 .ensures .same ∙ c .figures .ensures .same)
-        (dict-unknown-1 (s .types .cap) (nodesOf (s .types) (s .fields)) (c .args .k) (c .args .v) (c .in-Continue-key .ensures tt .figures .known) (u .unknown))
+    made-still s (c .figures-2 .last .self) 3 (1 ∷ []) _ (c .figures-2 .ensures .same ∙ c .figures .ensures .same)
+    (dict-unknown-1 (s .types .cap) (nodesOf (s .types) (s .fields)) (c .args .k) (c .args .v) (c .in-Continue-key .ensures tt .figures .known) (u .unknown))
     in
     rw (p .1, p .2, u .refusal) (record { called = called-dict s (c .figures-2 .last .self) _ (c .args .k) (c .args .v) m; made = m })
 
@@ -32,8 +32,8 @@ returns-then-k-eq0 c =
     let e = c .figures .ensures .same in
     let v = figured-as s _ (c .args .v) _ e (c .in-Continue-value .ensures tt .figures) in
     let m =
-        made-still s (c .figures-2 .last .self) 4 (0 ∷ []) _ (c .figures-2 .ensures .same ∙ e)
-        (dict-unit (s .types .cap) (nodesOf (s .types) (s .fields)) (c .args .k) (c .args .v) (c .in-Continue-key .ensures tt .figures .known) (v .known) (c .if-k-eq0 .taken))
+    made-still s (c .figures-2 .last .self) 4 (0 ∷ []) _ (c .figures-2 .ensures .same ∙ e)
+    (dict-unit (s .types .cap) (nodesOf (s .types) (s .fields)) (c .args .k) (c .args .v) (c .in-Continue-key .ensures tt .figures .known) (v .known) (c .if-k-eq0 .taken))
     in
     record { called = called-dict s (c .figures-2 .last .self) _ (c .args .k) (c .args .v) m; made = m }
 
@@ -43,8 +43,8 @@ returns-then-v-eq0 c =
     let e = c .figures .ensures .same in
     let v = figured-as s _ (c .args .v) _ e (c .in-Continue-value .ensures tt .figures) in
     let m =
-        made-still s (c .figures-2 .last .self) 4 (1 ∷ []) _ (c .figures-2 .ensures .same ∙ e)
-        (dict-unit-1 (s .types .cap) (nodesOf (s .types) (s .fields)) (c .args .k) (c .args .v) (c .in-Continue-key .ensures tt .figures .known) (v .known) (c .if-k-eq0 .left) (c .if-v-eq0 .taken))
+    made-still s (c .figures-2 .last .self) 4 (1 ∷ []) _ (c .figures-2 .ensures .same ∙ e)
+    (dict-unit-1 (s .types .cap) (nodesOf (s .types) (s .fields)) (c .args .k) (c .args .v) (c .in-Continue-key .ensures tt .figures .known) (v .known) (c .if-k-eq0 .left) (c .if-v-eq0 .taken))
     in
     record { called = called-dict s (c .figures-2 .last .self) _ (c .args .k) (c .args .v) m; made = m }
 
@@ -61,8 +61,8 @@ returns-in-Break-figures c =
     let p = err-from-errBy (c .from-residual-in-Break-figures .result) (c .from-residual-in-Break-figures .ensures .1) in
     let u = c .in-Break-figures .ensures tt in
     let m =
-        made-still s (c .figures-2 .last .self) 7 [] _ (c .figures-2 .ensures .same ∙ e)
-        (dict-long (s .types .cap) (nodesOf (s .types) (s .fields)) (c .args .k) (c .args .v) _ _ (c .in-Continue-key .ensures tt .figures) (figured-as s _ (c .args .v) _ e (c .in-Continue-value .ensures tt .figures)) (c .if-k-eq0 .left) (c .if-v-eq0 .left) (u .long))
+    made-still s (c .figures-2 .last .self) 7 [] _ (c .figures-2 .ensures .same ∙ e)
+    (dict-long (s .types .cap) (nodesOf (s .types) (s .fields)) (c .args .k) (c .args .v) _ _ (c .in-Continue-key .ensures tt .figures) (figured-as s _ (c .args .v) _ e (c .in-Continue-value .ensures tt .figures)) (c .if-k-eq0 .left) (c .if-v-eq0 .left) (u .long))
     in
     rw (p .1, p .2, u .refusal) (record { called = called-dict s (c .figures-2 .last .self) _ (c .args .k) (c .args .v) m; made = m })
 
@@ -82,7 +82,7 @@ returns c =
     let t = c .enter .last .self in
     let e = c .figures .ensures .same in
     let m =
-        made-as s (c .figures-2 .last .self) (t .types) (t .fields) _ (dict (c .args .k) (c .args .v)) _ (c .figures-2 .ensures .same ∙ e)
-        (dict-good (s .types .cap) (nodesOf (s .types) (s .fields)) (c .args .k) (c .args .v) _ _ (c .in-Continue-key .ensures tt .figures) (figured-as s _ (c .args .v) _ e (c .in-Continue-value .ensures tt .figures)) (c .if-k-eq0 .left) (c .if-v-eq0 .left) (c .in-Continue-figures .ensures tt .short)) (c .enter .ensures)
+    made-as s (c .figures-2 .last .self) (t .types) (t .fields) _ (dict (c .args .k) (c .args .v)) _ (c .figures-2 .ensures .same ∙ e)
+    (dict-good (s .types .cap) (nodesOf (s .types) (s .fields)) (c .args .k) (c .args .v) _ _ (c .in-Continue-key .ensures tt .figures) (figured-as s _ (c .args .v) _ e (c .in-Continue-value .ensures tt .figures)) (c .if-k-eq0 .left) (c .if-v-eq0 .left) (c .in-Continue-figures .ensures tt .short)) (c .enter .ensures)
     in
     record { called = called-dict s t _ (c .args .k) (c .args .v) m; made = m }

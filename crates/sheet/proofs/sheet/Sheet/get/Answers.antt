@@ -1,7 +1,17 @@
 use mathlib.Core.Path.{_≡_, sym, _∙_}
 use native.Mathlib.Omega.{arith}
-use Rattle.sheet.proofs.Shown.{get-none, get-some, get-next}
+use Rattle.std.proofs.shelf.Results.{err-from-errBy}
+use Rattle.sheet.proofs.Shown.{get-none, get-some, get-next, get-no, get-unknown}
 use Rattle.sheet.proofs.sheet.Sheet.get.Needs as need
+
+pub returns-in-Break-row : need.returns-in-Break-row
+returns-in-Break-row c =
+    let p = err-from-errBy (c .from-residual .result) (c .from-residual .ensures .1) in
+    let u = c .in-Break-row .ensures tt .row in
+    record { same = c .container .ensures .same; answer = rw (p .1, p .2, u .refusal) (get-unknown (c .args .self .now) (c .args .n) (u .unknown) (c .args .i)) }
+
+pub returns-then-row-ne-STRUCTURE : need.returns-then-row-ne-STRUCTURE
+returns-then-row-ne-STRUCTURE c = record { same = c .container .ensures .same; answer = get-no (c .args .self .now) (c .args .n) (c .in-Continue-row .row) (c .in-Continue-row .ensures tt .row) (c .args .i) (c .if-row-ne-STRUCTURE .taken) }
 
 pub returns-in-None : need.returns-in-None
 returns-in-None c =

@@ -29,9 +29,9 @@ returns-in-Break-all-known c =
     let u = c .in-Break-all-known .ensures tt in
     let h = ap (λ (k : ℕ). unknownAt k fs) (c .next-number .ensures .number) in
     let m =
-        refused-still s (c .next-number .last .self) 3 (unknownAt (c .next-number .result) fs ∷ []) _ (c .next-number .ensures .same)
-        (structure-unknown (s .types .cap) (s .fields .cap) (nodesOf (s .types) (s .fields)) (tailsIn (s .fields)) fs (omega (arith, h, u .1))
-        ∙ ap (unknown-value (nodesOf (s .types) (s .fields)) (tailsIn (s .fields))) (sym h))
+    refused-still s (c .next-number .last .self) 3 (unknownAt (c .next-number .result) fs ∷ []) _ (c .next-number .ensures .same)
+    (structure-unknown (s .types .cap) (s .fields .cap) (nodesOf (s .types) (s .fields)) (tailsIn (s .fields)) fs (omega (arith, h, u .1))
+    ∙ ap (unknown-value (nodesOf (s .types) (s .fields)) (tailsIn (s .fields))) (sym h))
     in
     rw (p .1, p .2, u .0) (record { called = called-structure s (c .next-number .last .self) _ fs m; made = m })
 
@@ -53,8 +53,8 @@ returns-then-is-empty c =
     let b = nodesOf (s .types) (s .fields) in
     let known = known-by b _ fs (c .next-number .ensures .number) (c .in-Continue-all-known .ensures tt) in
     let m =
-        refused-still s (c .next-number .last .self) 5 [] _ (c .next-number .ensures .same)
-        (structure-none (s .types .cap) (s .fields .cap) b (tailsIn (s .fields)) fs known (c .in-Continue-no-unit .ensures tt) (eqb-true (length fs) 0 (sym (c .if-is-empty .ensures tt))))
+    refused-still s (c .next-number .last .self) 5 [] _ (c .next-number .ensures .same)
+    (structure-none (s .types .cap) (s .fields .cap) b (tailsIn (s .fields)) fs known (c .in-Continue-no-unit .ensures tt) (eqb-true (length fs) 0 (sym (c .if-is-empty .ensures tt))))
     in
     record { called = called-structure s (c .next-number .last .self) _ fs m; made = m }
 
@@ -74,8 +74,8 @@ returns-in-Break-fields c =
     let u = long-as s (c .next-number .last .self) fs _ (c .next-number .ensures .same) (c .in-Break-fields .ensures tt .figures) in
     let known = known-by b _ fs (c .next-number .ensures .number) (c .in-Continue-all-known .ensures tt) in
     let m =
-        refused-still s (c .field-figures .last .self) 7 [] _ (c .field-figures .ensures .same ∙ c .next-number .ensures .same)
-        (structure-long (s .types .cap) (s .fields .cap) b (tailsIn (s .fields)) fs known (c .in-Continue-no-unit .ensures tt) (eqb-false (length fs) 0 (sym (c .if-is-empty .ensures tt))) (omega (arith, u .long)))
+    refused-still s (c .field-figures .last .self) 7 [] _ (c .field-figures .ensures .same ∙ c .next-number .ensures .same)
+    (structure-long (s .types .cap) (s .fields .cap) b (tailsIn (s .fields)) fs known (c .in-Continue-no-unit .ensures tt) (eqb-false (length fs) 0 (sym (c .if-is-empty .ensures tt))) (omega (arith, u .long)))
     in
     rw (p .1, p .2, u .refusal) (record { called = called-structure s (c .field-figures .last .self) _ fs m; made = m })
 
@@ -95,9 +95,9 @@ returns-in-Break-figures c =
     let u = c .in-Break-figures .ensures tt in
     let known = known-by b _ fs (c .next-number .ensures .number) (c .in-Continue-all-known .ensures tt) in
     let m =
-        refused-still s (c .field-figures .last .self) 7 [] _ (c .field-figures .ensures .same ∙ c .next-number .ensures .same)
-        (structure-long (s .types .cap) (s .fields .cap) b (tailsIn (s .fields)) fs known (c .in-Continue-no-unit .ensures tt) (eqb-false (length fs) 0 (sym (c .if-is-empty .ensures tt)))
-        (omega (arith, u .long, ap (λ (x : Figures). x .length) (f .figures))))
+    refused-still s (c .field-figures .last .self) 7 [] _ (c .field-figures .ensures .same ∙ c .next-number .ensures .same)
+    (structure-long (s .types .cap) (s .fields .cap) b (tailsIn (s .fields)) fs known (c .in-Continue-no-unit .ensures tt) (eqb-false (length fs) 0 (sym (c .if-is-empty .ensures tt)))
+    (omega (arith, u .long, ap (λ (x : Figures). x .length) (f .figures))))
     in
     rw (p .1, p .2, u .refusal) (record { called = called-structure s (c .field-figures .last .self) _ fs m; made = m })
 
@@ -128,8 +128,8 @@ returns c =
     let w = c .in-Continue-figures .ensures tt in
     let known = known-by b _ fs (c .next-number .ensures .number) (c .in-Continue-all-known .ensures tt) in
     let m =
-        structure-as s (c .field-figures .last .self) (t .types) (t .fields) fs _ _ (c .field-figures .ensures .same ∙ c .next-number .ensures .same)
-        (structure-good (s .types .cap) (s .fields .cap) b (tailsIn (s .fields)) fs known (c .in-Continue-no-unit .ensures tt) (eqb-false (length fs) 0 (sym (c .if-is-empty .ensures tt)))
-        (omega (arith, w .short, ap (λ (x : Figures). x .length) (f .figures)))) (c .structure-of .ensures)
+    structure-as s (c .field-figures .last .self) (t .types) (t .fields) fs _ _ (c .field-figures .ensures .same ∙ c .next-number .ensures .same)
+    (structure-good (s .types .cap) (s .fields .cap) b (tailsIn (s .fields)) fs known (c .in-Continue-no-unit .ensures tt) (eqb-false (length fs) 0 (sym (c .if-is-empty .ensures tt)))
+    (omega (arith, w .short, ap (λ (x : Figures). x .length) (f .figures)))) (c .structure-of .ensures)
     in
     record { called = called-structure s t _ fs m; made = m }
