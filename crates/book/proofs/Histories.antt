@@ -122,7 +122,7 @@ distinct-texts (s ∷ ss) d =
 backed-distinct : (b : List Text) → Backed b → Distinct b
 backed-distinct b k = subst Distinct (k .texts) (distinct-texts (k .ss) (distinct-right basics (k .ss) (k .sound .apart)))
 
-known-distinct : (b : List Text) → Backed b → Distinct (known b)
+pub known-distinct : (b : List Text) → Backed b → Distinct (known b)
 known-distinct b k = subst Distinct (sym (known-is (k .ss)) ∙ ap known (k .texts)) (λ i. nothing-empty (basics ++ k .ss) i, distinct-texts (basics ++ k .ss) (k .sound .apart))
   where
     nothing-empty : (ss : List Shape) → In [] (map printed ss) → ⊥

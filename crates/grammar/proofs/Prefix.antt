@@ -11,11 +11,11 @@ use Rattle.grammar.specs.Scan.{Frame, one, Verdict, good, bad, run, final}
 use Rattle.grammar.proofs.ScanSteps.{run-stop, step-none}
 use Rattle.grammar.proofs.ScanComplete.{complete}
 
-abbrev left : Verdict → Text
+abbrev pub left : Verdict → Text
 left good = []
 left (bad c w) = w
 
-left-none : (w : Text) → left (run [] w) ≡ w
+pub left-none : (w : Text) → left (run [] w) ≡ w
 unfolding run final
 left-none [] = refl
 left-none (b ∷ w) = ap left (run-stop [] b Unexpected w (step-none b))

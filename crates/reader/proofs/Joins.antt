@@ -13,8 +13,8 @@ use Rattle.grammar.specs.declared.error.Cause.the-variants.{Ended, TooDeep, Une
 use Rattle.grammar.specs.declared.error.Fault.{Fault}
 use Rattle.grammar.specs.Shape.{Text, isBasic}
 use Rattle.grammar.specs.Scan.{Frame, one, others, element, close, types, Step, go, stop, Verdict, good, bad, begin, step, final, run}
-use Rattle.reader.specs.Parsing.{Passed, Failed, Opened, Parsed, ValidOr}
-use Rattle.reader.specs.Bytes.{Ate, Stayed}
+use Rattle.reader.specs.Parsing.{Passed, Failed, Opened, Parsed, CountedOr}
+use Rattle.reader.specs.Bytes.{Ate, Stayed, Eaten}
 use Rattle.grammar.specs.Valid.{FaultOf}
 use Rattle.std.specs.declared.result.Result.{Result}
 use Rattle.std.specs.declared.result.Result.the-variants.{Ok, Err}
@@ -137,6 +137,9 @@ ate-in {u} {text} {at} {b} {to} e p = subst (λ (x : Text). Ate x at b to) e p
 pub stayed-in : {u text : Text} {at b to : ℕ} → u ≡ text → Stayed u at b to → Stayed text at b to
 stayed-in {u} {text} {at} {b} {to} e p = subst (λ (x : Text). Stayed x at b to) e p
 
+pub eaten-in : {u text : Text} (at b to : ℕ) (r : Bool) → u ≡ text → Eaten u at b r to → Eaten text at b r to
+eaten-in at b to r e p = subst (λ (x : Text). Eaten x at b r to) e p
+
 pub byte-in : {u text : Text} (at b to : ℕ) → u ≡ text → Byte u at b to → Byte text at b to
 byte-in at b to e p = subst (λ (x : Text). Byte x at b to) e p
 
@@ -177,5 +180,5 @@ top-failed text at s a f h p = top-one text at s a h ∙ p .breaks (types s a �
 pub top-ended : (text : Text) (at s a : ℕ) → length text ≤ at → run (types s a ∷ []) (drop at text) ≡ good
 top-ended text at s a h = rw (drop-of-length-le text h) (run-good s a [])
 
-pub answered : {X : Type 0} (text : Text) (r : Result X Fault) (y f : Fault) → r ≡ Err y → y ≡ f → FaultOf text f → ValidOr text r
-answered text r y f e q p = subst (λ x. ValidOr text x) (sym (e ∙ ap Err q)) p
+pub answered : (text : Text) (r : Result ℕ Fault) (y f : Fault) → r ≡ Err y → y ≡ f → FaultOf text f → CountedOr text r
+answered text r y f e q p = subst (λ x. CountedOr text x) (sym (e ∙ ap Err q)) p

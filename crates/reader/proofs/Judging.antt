@@ -64,3 +64,17 @@ module _ {X : Type 0} where
       λ q. ap (λ (x : Fault). refused 2 (letterOf (x .cause) ∷ x .place ∷ [])) (same-fault w g f p (q .1)),
     );
   }
+
+-- what is said of a text, whatever value comes with it
+pub judged-any : {X Y : Type 0} (w : Text) (x : X) (y : Y) → Judged w (accepted x) → Judged w (accepted y)
+judged-any w x y j = let p = j .valid .0 tt in judged-valid w y (p .0) (p .1)
+
+again : {X Y : Type 0} (m n : ℕ) (us vs : List ℕ) → _≡_ {A = Outcome X} (refused m us) (refused n vs) → _≡_ {A = Outcome Y} (refused m us) (refused n vs)
+again m n us vs e = let p : m ≡ n = cc in let q : us ≡ vs = cc in ap₂ (λ (k : ℕ) (ws : List ℕ). refused k ws) p q
+
+pub judged-none : {X Y : Type 0} (w : Text) (n : ℕ) (vs : List ℕ) → Judged {X = X} w (refused n vs) → Judged {X = Y} w (refused n vs)
+judged-none w n vs j = record {
+  valid = j .valid;
+  too-long = (λ e. j .too-long .0 (again _ _ _ _ e), λ h. again _ _ _ _ (j .too-long .1 h));
+  faulty = λ f. (λ e. j .faulty f .0 (again _ _ _ _ e), λ h. again _ _ _ _ (j .faulty f .1 h));
+}

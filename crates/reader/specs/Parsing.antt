@@ -1,13 +1,13 @@
 -- What reading a part says of the text, whatever is to come after that part.
 use mathlib.Core.Path.{_≡_}
 use mathlib.Core.List.{List, _++_, _∷_}
-use Prim.Native.Nat.{ℕ, _≤_, _<_, _-_}
+use Prim.Native.Nat.{ℕ, _+_, _≤_, _<_, _-_}
 use lib.ListN.{length, drop}
 use denote.Ref.{now}
 use Rattle.std.specs.declared.result.Result.{Result}
 use Rattle.std.specs.declared.result.Result.the-variants.{Ok, Err}
 use Rattle.grammar.specs.declared.error.Fault.{Fault}
-use Rattle.grammar.specs.Shape.{Text}
+use Rattle.grammar.specs.Shape.{Text, Shapes, nil, more}
 use Rattle.grammar.specs.Valid.{Valid, FaultOf}
 use Rattle.grammar.specs.Scan.{Frame, one, run, bad}
 use Rattle.reader.specs.declared.cursor.Cursor.{Cursor}
@@ -40,7 +40,17 @@ pub record Reading {X : Type 0} (before : Cursor) (fs : List Frame) (r : Result 
   pub same : now (after .text) ≡ now (before .text)
   pub outcome : Parsed (now (before .text)) (before .at) fs r (after .at)
 
--- a whole text is valid, or has the fault
-abbrev pub ValidOr : {X : Type 0} → Text → Result X Fault → Type 0
-ValidOr text (Ok x) = Valid text
-ValidOr text (Err f) = FaultOf text f
+-- how many shapes stand in a row
+abbrev pub countOf : Shapes → ℕ
+countOf nil = 0
+countOf (more t ts) = countOf ts + 1
+
+-- the text is valid, with so many types
+pub record Counted (text : Text) (n : ℕ) : Type 0 where
+  pub valid : Valid text
+  pub count : n ≡ countOf (valid .shapes)
+
+-- a whole text has so many types, or the fault
+abbrev pub CountedOr : Text → Result ℕ Fault → Type 0
+CountedOr text (Ok n) = Counted text n
+CountedOr text (Err f) = FaultOf text f

@@ -1,5 +1,6 @@
 // A place in a text that is read from left to right; none of the text is copied.
 ghost use mathlib.Core.Path.{_≡_};
+ghost use mathlib.Core.Bool.{true, false};
 ghost use mathlib.Core.List.{_∷_};
 ghost use Prim.Native.Nat.{_+_, _<_, _≤_};
 ghost use denote.Ref.{now as held};
@@ -19,6 +20,21 @@ impl<'t> Cursor<'t> {
         ensures { λ r. ⌜ now (r .text) ≡ now (text .entry) ⌝ ∗ ⌜ r .at ≡ 0 ⌝ }
     {
         Cursor { text, at: 0 }
+    }
+
+    // How many bytes are passed.
+    pub fn place(&self) -> usize
+        ensures { λ r. ⌜ r ≡ now (self .entry) .at ⌝ }
+    {
+        self.at
+    }
+
+    // Whether no byte is left.
+    pub fn at_end(&self) -> bool
+        ensures ended { λ r. ⌜ (r ≡ true → length (now (now (self .entry) .text)) ≤ now (self .entry) .at) ⌝ }
+        ensures more { λ r. ⌜ (r ≡ false → now (self .entry) .at < length (now (now (self .entry) .text))) ⌝ }
+    {
+        self.at >= self.text.len()
     }
 
     // The byte at the place; none at the end.

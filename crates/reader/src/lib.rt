@@ -2,4 +2,5 @@
 pub mod cursor;
 pub mod reading;
 
+pub use reading::parse;
 pub use reading::validate;

@@ -5,8 +5,8 @@ ghost use Prim.Native.Nat.{_-_, _<_};
 ghost use Rattle.grammar.specs.Shape.{isBasic};
 ghost use Rattle.grammar.specs.Refusals.{outcome};
 ghost use Rattle.grammar.specs.Scan.{one, others, close};
-ghost use Rattle.reader.specs.Parsing.{Parsed, Reading, ValidOr};
-ghost use Rattle.reader.specs.Judged.{Judged};
+ghost use Rattle.reader.specs.Parsing.{Parsed, Reading, CountedOr};
+ghost use Rattle.reader.specs.Judged.{Judged, CountedIn};
 use crate::cursor::Cursor;
 use grammar::error::{Cause, Fault, Refusal, RefusalFromFault};
 
@@ -114,24 +114,35 @@ fn parse_signature(cursor: &mut Cursor, structures: u8, arrays: u8) -> Result<()
     }
 }
 
-// Types in a row up to the end of the text.
-fn parse(text: &[u8]) -> Result<(), Fault>
-    ensures { λ r. ⌜ ValidOr (now (text .entry)) r ⌝ }
+// How many complete types stand in a row up to the end of the text.
+fn parse_all(text: &[u8]) -> Result<usize, Fault>
+    ensures { λ r. ⌜ CountedOr (now (text .entry)) r ⌝ }
 {
     let mut cursor = Cursor::new(text);
+    let mut types = 0;
     while cursor.at < text.len() {
         parse_signature(&mut cursor, MAX_STRUCT_DEPTH, MAX_ARRAY_DEPTH)?;
+        types += 1;
     }
-    Ok(())
+    Ok(types)
+}
+
+// How many complete types `text` has, or else why and where it is no signature.
+pub fn parse(text: &[u8]) -> Result<usize, Refusal>
+    ensures judged { λ r. ⌜ Judged (now (text .entry)) (outcome r) ⌝ }
+    ensures counted { λ r. ⌜ CountedIn (now (text .entry)) (outcome r) ⌝ }
+{
+    if text.len() > LONGEST_TEXT {
+        return Err(Refusal::TextTooLong);
+    }
+    let types = parse_all(text)?;
+    Ok(types)
 }
 
 // Whether `text` is a signature, or else why and where it is none.
 pub fn validate(text: &[u8]) -> Result<(), Refusal>
     ensures { λ r. ⌜ Judged (now (text .entry)) (outcome r) ⌝ }
 {
-    if text.len() > LONGEST_TEXT {
-        return Err(Refusal::TextTooLong);
-    }
     parse(text)?;
     Ok(())
 }

@@ -1,4 +1,0 @@
-// Reads texts into a sheet.
-pub fn probe() -> u8 {
-    0
-}

@@ -1,0 +1,10 @@
+pub mod Tails
+pub mod Laid
+pub mod Kept
+pub mod Grown
+pub mod Made
+pub mod Figured
+pub mod Structured
+pub mod Asked
+pub mod Format
+pub mod Called
