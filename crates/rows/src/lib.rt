@@ -36,7 +36,7 @@ impl<'a, R: Row> RowList<'a, R> {
         for r in rows.iter_mut() {
             *r = blank;
         }
-        let cap = if rows.len() < most { rows.len() } else { most };
+        let cap = rows.len().min(most);
         RowList {
             rows,
             count: 0,
@@ -49,11 +49,7 @@ impl<'a, R: Row> RowList<'a, R> {
         ensures same { λ _. ⌜ now (self .exit) ≡ now (self .entry) ⌝ }
         ensures count { λ r. ⌜ r ≡ used (now (self .entry)) ⌝ }
     {
-        if self.count < self.rows.len() {
-            self.count
-        } else {
-            self.rows.len()
-        }
+        self.count.min(self.rows.len())
     }
 
     // The row in use at place `i`.

@@ -48,9 +48,9 @@ impl<'a> Sheet<'a> {
         ensures same { λ _. ⌜ now (self .exit) ≡ now (self .entry) ⌝ }
         ensures answer { λ r. ⌜ outcome r ≡ keyOf (bookOf (now (self .entry) .types) (now (self .entry) .fields)) n ⌝ }
     {
-        let row = self.container(n)?;
-        if row.kind == DICT {
-            Ok(row.first)
+        let pair = self.container(n)?;
+        if pair.kind == DICT {
+            Ok(pair.first)
         } else {
             Err(Refusal::WrongKind)
         }
