@@ -1,6 +1,5 @@
 // The parts of a container that is no structure.
 ghost use mathlib.Core.Path.{_≡_};
-ghost use Prim.Native.Nat.{ℕ};
 ghost use Rattle.std.specs.Results.{Cases};
 ghost use Rattle.grammar.specs.Refusals.{outcome};
 ghost use Rattle.sheet.specs.Kept.{nodesOf, fieldsIn};
