@@ -3,7 +3,7 @@ ghost use mathlib.Core.Path.{_≡_};
 ghost use mathlib.Core.List.{List};
 ghost use mathlib.Core.Bool.{true};
 ghost use Prim.Native.Nat.{ℕ, _+_, _<_, _≤_, min};
-ghost use lib.ListN.{length, getD, set};
+ghost use lib.ListN.{length, getD};
 ghost use denote.Ref.{now};
 ghost use Rattle.std.specs.Options.{Cases as BySome};
 ghost use Rattle.rows.specs.Found.{used, Absent, Located, Place, Refused};
@@ -36,7 +36,7 @@ impl<'a, R: Row> RowList<'a, R> {
         for r in rows.iter_mut() {
             *r = blank;
         }
-        let cap = if rows.len() < most { rows.len() } else { most };
+        let cap = rows.len().min(most);
         RowList {
             rows,
             count: 0,
@@ -49,11 +49,7 @@ impl<'a, R: Row> RowList<'a, R> {
         ensures same { λ _. ⌜ now (self .exit) ≡ now (self .entry) ⌝ }
         ensures count { λ r. ⌜ r ≡ used (now (self .entry)) ⌝ }
     {
-        if self.count < self.rows.len() {
-            self.count
-        } else {
-            self.rows.len()
-        }
+        self.count.min(self.rows.len())
     }
 
     // The row in use at place `i`.

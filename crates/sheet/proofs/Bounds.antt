@@ -1,16 +1,15 @@
 -- A depth is at most the length of the printed form.
-use mathlib.Core.Path.{_≡_, refl, sym, ap, subst, _∙_}
+use mathlib.Core.Path.{sym, subst}
 use mathlib.Core.List.{List, [], _∷_, _++_, map}
-use mathlib.Core.Bool.{Bool, true, false, cond}
-use Prim.Native.Nat.{ℕ, zero, suc, _+_, _-_, _<_, _≤_, max}
+use Prim.Native.Nat.{ℕ, zero, suc, _+_, _-_, _<_}
 use native.Mathlib.Omega.{arith}
 use native.Mathlib.Decide.{decLt}
 use borrow.Author.Tests.{lt-ltb, le-ltb}
-use lib.ListN.{length, getD, drop}
-use Rattle.std.proofs.shelf.Lists.{length-push, length-map, getD-map, getD-past, drop-more}
+use lib.ListN.{length, getD}
+use Rattle.std.proofs.shelf.Lists.{length-map, getD-map, getD-past}
 use Rattle.grammar.specs.declared.figures.Figures.{Figures}
 use Rattle.grammar.specs.Shape.{basicCodes}
-use Rattle.book.specs.Nodes.{Node, array, maybe, dict, structure, codeFigures, firstFigures, blankFigures, figuresAt, fieldFigures, nodeFigures, figuresFrom, Part, Parts}
+use Rattle.book.specs.Nodes.{Node, array, maybe, dict, structure, codeFigures, firstFigures, blankFigures, figuresAt, fieldFigures, nodeFigures, figuresFrom}
 use Rattle.sheet.specs.Figured.{Bounded}
 use Rattle.sheet.proofs.Keep.{each-push}
 

@@ -1,30 +1,27 @@
 -- A container that is no structure, entered.
-use mathlib.Core.Path.{_≡_, refl, sym, ap, subst, _∙_}
-use mathlib.Core.List.{List, []}
-use mathlib.Core.Logic.{_⊎_, inl, inr}
+use mathlib.Core.Path.{_≡_, refl, sym, _∙_}
+use mathlib.Core.List.{[]}
+use mathlib.Core.Logic.{inl, inr}
 use Prim.Native.Nat.{ℕ, _+_, _<_, _≤_}
 use native.Mathlib.Omega.{arith}
-use borrow.Author.Tests.{lt-ltb, le-ltb, eq-eqb, ne-eqb}
-use lib.ListN.{length, take}
+use lib.ListN.{length}
 use denote.Ref.{now}
 use Rattle.std.specs.declared.option.Option.{Option}
 use Rattle.std.specs.declared.option.Option.the-variants.{None, Some}
 use Rattle.std.specs.Options.{Cases as BySome}
 use Rattle.std.proofs.shelf.Lists.{length-set}
-use Rattle.grammar.specs.declared.figures.Figures.{Figures}
 use Rattle.grammar.specs.Refusals.{accepted, refused}
 use Rattle.rows.specs.declared.RowList.{RowList}
 use Rattle.rows.specs.Found.{Refused, Place}
-use Rattle.book.specs.Plain.{Answer}
-use Rattle.book.specs.Nodes.{Node, fieldsOf, nodeFigures, figuresFrom}
-use Rattle.book.specs.Makers.{placed, sized}
+use Rattle.book.specs.Nodes.{fieldsOf}
+use Rattle.book.specs.Makers.{placed}
 use Rattle.sheet.specs.declared.row.TypeRow.{TypeRow}
 use Rattle.sheet.specs.declared.row.FieldRow.{FieldRow}
 use Rattle.sheet.specs.Kept.{Kept, Fit, nodesOf, tailsIn, typesIn, fieldsIn, nodeOf, typeKey}
-use Rattle.sheet.specs.Grown.{Same, Unchanged}
+use Rattle.sheet.specs.Grown.{Same}
 use Rattle.sheet.specs.Made.{Made, withTails}
 use Rattle.sheet.proofs.Step.{placed-sound, placed-told, placed-tails, refused-told}
-use Rattle.sheet.proofs.Undo.{same-refl, grown-same, grown-by, grew-same, kept-same, unchanged-refl}
+use Rattle.sheet.proofs.Undo.{same-refl, grown-same, grown-by}
 
 module _ (t t′ : RowList TypeRow) (f : RowList FieldRow) (r : TypeRow)
     (h : t .count ≤ t .cap) (u : t .cap ≤ length (now (t .rows)))

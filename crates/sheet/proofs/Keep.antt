@@ -1,16 +1,16 @@
 -- What a sheet keeps has one proof, holds of an empty sheet, and goes on with one row more.
 use mathlib.Core.Path.{_≡_, refl, sym, ap, subst, _∙_}
-use mathlib.Core.List.{List, [], _∷_, _++_, map, List-discrete}
+use mathlib.Core.List.{List, [], _∷_, _++_, List-discrete}
 use mathlib.Core.Bool.{Bool, true, false}
 use mathlib.Core.HLevel.{Discrete, Π-prop, ×-prop, ⊥-prop, hedberg, isProp→PathP}
 use mathlib.Core.Logic.{∥∥₁-elim, ∥∥₁-prop}
-use Prim.Native.Nat.{ℕ, zero, suc, _+_, _<_, _≤_}
+use Prim.Native.Nat.{ℕ, _+_, _<_, _≤_}
 use native.Mathlib.Bridge.{le-prop}
 use native.Mathlib.Decide.{ℕ-discrete, decLt}
-use native.Mathlib.Nat.{add-zero, add-assoc}
+use native.Mathlib.Nat.{add-zero}
 use native.Mathlib.Omega.{arith}
 use lib.Dec.{eqb}
-use lib.ListN.{length, getD, take, drop}
+use lib.ListN.{length, getD, drop}
 use denote.Ref.{now}
 use Rattle.std.proofs.shelf.Lists.{length-push, getD-push, getD-append-left, map-push, getD-past, length-map}
 use Rattle.grammar.specs.declared.figures.Figures.{Figures}

@@ -1,8 +1,8 @@
 -- Laying a field list, row by row from its last field.
 use mathlib.Core.Path.{_≡_, refl, sym, ap, subst, _∙_}
 use mathlib.Core.List.{List, [], _∷_, _++_}
-use mathlib.Core.Logic.{_⊎_, inl, inr}
-use Prim.Native.Nat.{ℕ, zero, suc, _+_, _-_, _<_, _≤_, min}
+use mathlib.Core.Logic.{inl, inr}
+use Prim.Native.Nat.{ℕ, suc, _+_, _-_, _<_, _≤_, min}
 use native.Mathlib.Omega.{arith}
 use native.Mathlib.Decide.{decLt}
 use lib.ListN.{length, getD, take, drop, set}
@@ -10,7 +10,7 @@ use denote.Ref.{now}
 use Rattle.rows.specs.declared.RowList.{RowList}
 use Rattle.std.proofs.shelf.Lists.{take-more-set, length-push, getD-take, length-take-le, getD-set-other, length-set, length-drop, drop-more, drop-all, same-lists, getD-default}
 use Rattle.grammar.specs.Lists.{place, add}
-use Rattle.rows.specs.Found.{Held, Added, Refused, Place, Absent}
+use Rattle.rows.specs.Found.{Refused, Place, Absent}
 use Rattle.book.specs.Makers.{addTails}
 use Rattle.sheet.specs.declared.row.FieldRow.{FieldRow}
 use Rattle.book.specs.Rows.{tailNumber}

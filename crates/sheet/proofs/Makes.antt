@@ -8,16 +8,16 @@ use lib.ListN.{length}
 use Rattle.std.proofs.shelf.Lists.{length-map}
 use Rattle.grammar.specs.declared.figures.Figures.{Figures}
 use Rattle.grammar.specs.declared.error.Refusal.{Refusal}
-use Rattle.grammar.specs.Refusals.{accepted, refused}
+use Rattle.grammar.specs.Refusals.{refused}
 use Rattle.rows.specs.declared.RowList.{RowList}
 use Rattle.book.specs.Plain.{Answer}
-use Rattle.book.specs.Nodes.{Node, array, maybe, dict, figuresAt, figuresFrom, arrayFigures, maybeFigures, dictFigures, nodeFigures, sizeOf}
+use Rattle.book.specs.Nodes.{Node, array, maybe, dict, figuresAt, figuresFrom, arrayFigures, maybeFigures, dictFigures, sizeOf}
 use Rattle.book.specs.Makers.{placed, sized, arrayCall, maybeCall, dictCall}
 use Rattle.sheet.specs.declared.row.TypeRow.{TypeRow}
 use Rattle.sheet.specs.declared.row.FieldRow.{FieldRow}
 use Rattle.sheet.specs.declared.sheet.Sheet.{Sheet}
 use Rattle.sheet.specs.Kept.{Fit, nodesOf, tailsIn, typesIn, fieldsIn, nodeOf}
-use Rattle.sheet.specs.Figured.{Bounded, Short, Long, Figured, NotKnown}
+use Rattle.sheet.specs.Figured.{Bounded, Short, Figured, NotKnown}
 use Rattle.sheet.specs.Made.{Made, withTails}
 use Rattle.sheet.proofs.Bounds.{bounded}
 use Rattle.sheet.proofs.Undo.{unchanged-refl, grew-same}

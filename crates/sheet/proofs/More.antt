@@ -1,6 +1,6 @@
 -- More field rows leave the type rows as they are.
 use mathlib.Core.Path.{_≡_, refl, sym, ap, subst, _∙_}
-use mathlib.Core.List.{List, [], _∷_, _++_, map}
+use mathlib.Core.List.{List, [], _∷_, _++_}
 use mathlib.Core.Bool.{Bool, true, false, cond}
 use Prim.Native.Nat.{ℕ, zero, suc, _+_, _<_, _≤_}
 use native.Mathlib.Omega.{arith}
@@ -15,8 +15,8 @@ use Rattle.book.specs.Makers.{addTails}
 use Rattle.sheet.specs.declared.row.TypeRow.{TypeRow}
 use Rattle.sheet.specs.declared.row.FieldRow.{FieldRow}
 use Rattle.book.specs.Rows.{tailNumber}
-use Rattle.sheet.specs.Tails.{blankField, sameTail, tailAt, rowTails, FieldsGood}
-use Rattle.sheet.specs.Laid.{Ready, Laid, NoRoom}
+use Rattle.sheet.specs.Tails.{sameTail, tailAt, rowTails, FieldsGood}
+use Rattle.sheet.specs.Laid.{Laid}
 use Rattle.book.specs.Rows.{nodeKey}
 use Rattle.sheet.specs.Kept.{Good, Sound, nodesAt, nodes, nodeBy, nodeOf, typeKey, blankType}
 use Rattle.sheet.proofs.Places.{tail-tells, place-more}

@@ -1,7 +1,7 @@
 -- A sheet that was opened holds nothing.
-use mathlib.Core.Path.{_≡_, refl, sym, ap, _∙_}
+use mathlib.Core.Path.{_≡_, ap, _∙_}
 use mathlib.Core.List.{List, [], map}
-use Prim.Native.Nat.{ℕ, _<_, _≤_, min}
+use Prim.Native.Nat.{ℕ, _<_, min}
 use lib.ListN.{length, getD, take}
 use denote.Ref.{now}
 use Rattle.rows.specs.declared.RowList.{RowList}
@@ -10,8 +10,8 @@ use Rattle.book.specs.Nodes.{textsOf}
 use Rattle.sheet.specs.declared.row.TypeRow.{TypeRow}
 use Rattle.sheet.specs.declared.row.FieldRow.{FieldRow}
 use Rattle.sheet.specs.Tails.{blankField, fieldKey}
-use Rattle.sheet.specs.Kept.{nodes, nodeOf, typesIn, fieldsIn, typeKey, figuresIn, blankType}
-use Rattle.sheet.specs.Called.{bookOf, limitsOf, Stands, Opened}
+use Rattle.sheet.specs.Kept.{nodes, fieldsIn, typeKey, figuresIn, blankType}
+use Rattle.sheet.specs.Called.{Opened}
 
 none-in : {R : Type 0} (l : RowList R) → l .count ≡ 0 → take (l .count) (now (l .rows)) ≡ []
 none-in l e = ap (λ (n : ℕ). take n (now (l .rows))) e

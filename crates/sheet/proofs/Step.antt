@@ -1,17 +1,12 @@
 -- A type row that is looked for, and added if it is new.
-use mathlib.Core.Path.{_≡_, refl, sym, ap, subst, _∙_}
-use mathlib.Core.List.{List, [], _∷_, _++_, map}
-use mathlib.Core.Logic.{_⊎_, inl, inr}
-use mathlib.Core.Bool.{Bool, true, false, cond}
-use Prim.Native.Nat.{ℕ, zero, suc, _+_, _<_, _≤_, min}
+use mathlib.Core.Path.{_≡_, sym, ap, subst, _∙_}
+use mathlib.Core.List.{List, [], _∷_, _++_}
+use mathlib.Core.Logic.{inl, inr}
+use Prim.Native.Nat.{ℕ, _+_, _<_, _≤_, min}
 use native.Mathlib.Omega.{arith}
 use borrow.Author.Tests.{lt-ltb, le-ltb}
 use lib.ListN.{length, getD, take, set}
-use lib.Dec.{ltb}
-use Rattle.std.specs.Options.{Cases as BySome}
-use Rattle.std.specs.declared.option.Option.{Option}
-use Rattle.std.specs.declared.option.Option.the-variants.{Some, None}
-use Rattle.std.proofs.shelf.Lists.{take-more-set, getD-map, getD-take, map-push, length-take-le, length-map, getD-set-other, length-set}
+use Rattle.std.proofs.shelf.Lists.{take-more-set, getD-map, getD-take, map-push, length-take-le, length-map, getD-set-other}
 use Rattle.grammar.specs.Lists.{place}
 use Rattle.grammar.specs.Refusals.{accepted, refused}
 use Rattle.rows.specs.Found.{Held, Added, Refused, Place, Absent}
@@ -22,7 +17,7 @@ use Rattle.sheet.specs.declared.row.TypeRow.{TypeRow}
 use Rattle.sheet.specs.declared.row.FieldRow.{FieldRow}
 use Rattle.book.specs.Rows.{nodeKey}
 use Rattle.sheet.specs.Tails.{rowTails}
-use Rattle.sheet.specs.Kept.{Good, Sound, Fit, nodesAt, tailsAt, nodes, nodeBy, nodeOf, typeKey, blankType}
+use Rattle.sheet.specs.Kept.{Good, Sound, Fit, nodesAt, nodes, nodeBy, nodeOf, typeKey, blankType}
 use Rattle.book.proofs.NodeShapes.{same-nodes}
 use Rattle.sheet.proofs.Places.{place-at, place-none}
 use Rattle.sheet.proofs.Keep.{good-push}

@@ -1,30 +1,30 @@
 -- A structure, filed after its field rows.
 use mathlib.Core.Path.{_≡_, refl, sym, ap, subst, _∙_}
 use mathlib.Core.List.{List, [], _∷_, _++_}
-use mathlib.Core.Logic.{_⊎_, inl, inr}
-use Prim.Native.Nat.{ℕ, zero, suc, _+_, _<_, _≤_, min}
+use mathlib.Core.Logic.{inl, inr}
+use Prim.Native.Nat.{ℕ, suc, _+_, _<_, _≤_, min}
 use native.Mathlib.Omega.{arith}
 use borrow.Author.Tests.{lt-ltb, le-ltb, eq-eqb, ne-eqb}
-use lib.ListN.{length, getD, take}
+use lib.ListN.{length, getD}
 use denote.Ref.{now}
 use Rattle.std.proofs.shelf.Lists.{length-take-le, length-map, length-set}
 use Rattle.grammar.specs.declared.figures.Figures.{Figures}
 use Rattle.grammar.specs.declared.error.Refusal.{Refusal}
 use Rattle.grammar.specs.Refusals.{accepted, refused}
 use Rattle.rows.specs.declared.RowList.{RowList}
-use Rattle.rows.specs.Found.{Held, Added, Refused, Place}
+use Rattle.rows.specs.Found.{Refused, Place}
 use Rattle.book.specs.Plain.{Answer}
-use Rattle.book.specs.Nodes.{Node, structure, fieldFigures, nodeFigures, figuresFrom, sizeOf, tailsOf, Part, Parts, Known}
-use Rattle.book.specs.Makers.{placed, sized, addTails, kept, structurePlaced, structureCall, unknownAt, unitAt}
+use Rattle.book.specs.Nodes.{Node, structure, fieldFigures, nodeFigures, figuresFrom, sizeOf, tailsOf, Parts, Known}
+use Rattle.book.specs.Makers.{placed, addTails, kept, structurePlaced, structureCall, unknownAt, unitAt}
 use Rattle.sheet.specs.declared.row.TypeRow.{TypeRow}
 use Rattle.sheet.specs.declared.row.FieldRow.{FieldRow}
 use Rattle.sheet.specs.declared.sheet.Sheet.{Sheet}
 use Rattle.sheet.specs.Figured.{Short, Long}
-use Rattle.sheet.specs.Tails.{blankField, tailAt, rowTails}
+use Rattle.sheet.specs.Tails.{blankField}
 use Rattle.sheet.specs.Laid.{Ready, Laid, NoRoom}
 use Rattle.book.specs.Rows.{nodeKey}
-use Rattle.sheet.specs.Kept.{Sound, Kept, Fit, nodesOf, tailsIn, typesIn, fieldsIn, nodeOf, typeKey}
-use Rattle.sheet.specs.Grown.{Same, Grown, Cut, Unchanged}
+use Rattle.sheet.specs.Kept.{Sound, Fit, nodesOf, tailsIn, typesIn, fieldsIn, nodeOf, typeKey}
+use Rattle.sheet.specs.Grown.{Cut, Unchanged}
 use Rattle.sheet.specs.Made.{Made}
 use Rattle.sheet.specs.Structured.{Whole, AllParts, Structured}
 use Rattle.sheet.proofs.Firsts.{all-known, all-more}
@@ -32,7 +32,7 @@ use Rattle.sheet.proofs.Laying.{tails-long}
 use Rattle.sheet.proofs.More.{sound-more, nodes-more, tail-laid}
 use Rattle.sheet.proofs.Tailed.{tails-push, tails-held}
 use Rattle.sheet.proofs.Step.{Told, some-node, nodes-added, nodes-held, node-held, placed-sound, placed-told, refused-told, nodes-long}
-use Rattle.sheet.proofs.Undo.{same-refl, unchanged-refl, grown-same, grown-trans, grown-by, grown-laid, grew-same, undone, kept-same, nodes-same, tails-same}
+use Rattle.sheet.proofs.Undo.{same-refl, unchanged-refl, grown-by, grown-laid, grew-same, undone, kept-same, nodes-same, tails-same}
 
 pub ready-in : (t : RowList TypeRow) (f : RowList FieldRow) → Whole t f → Ready (now (f .rows)) (f .count) (f .cap)
 ready-in t f w = record { good = w .kept .sound .good .fields; within = w .fields-within; usable = w .fields-usable; most = w .fields-most; blank = w .kept .sound .fields-blank }

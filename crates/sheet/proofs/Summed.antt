@@ -1,12 +1,12 @@
 -- The figures of fields in a row, from the last field back.
-use mathlib.Core.Path.{_≡_, refl, sym, ap, subst, _∙_}
-use mathlib.Core.List.{List, [], _∷_, _++_, map}
+use mathlib.Core.Path.{_≡_, sym, ap, _∙_}
+use mathlib.Core.List.{List, [], _∷_, _++_}
 use Prim.Native.Nat.{ℕ, zero, suc, _+_, _-_, _<_, _≤_}
 use native.Mathlib.Omega.{arith}
 use native.Mathlib.Decide.{decLt}
 use borrow.Author.Tests.{lt-ltb, le-ltb}
 use lib.ListN.{length, getD, drop}
-use Rattle.std.proofs.shelf.Lists.{length-push, length-map, getD-map, drop-more}
+use Rattle.std.proofs.shelf.Lists.{length-push, getD-map, drop-more}
 use Rattle.grammar.specs.declared.figures.Figures.{Figures}
 use Rattle.grammar.specs.Shape.{basicCodes}
 use Rattle.book.specs.Nodes.{Node, array, maybe, dict, structure, codeFigures, firstFigures, blankFigures, figuresAt, fieldFigures, withField, nodeFigures, figuresFrom}

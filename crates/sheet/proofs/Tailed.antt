@@ -5,9 +5,9 @@ use mathlib.Core.Bool.{Bool, true, false, cond, _||_}
 use Prim.Native.Nat.{ℕ, zero, suc, _<_}
 use native.Mathlib.Omega.{arith}
 use lib.ListN.{length, getD}
-use Rattle.std.proofs.shelf.Tests.{cond-true, cases-bool}
+use Rattle.std.proofs.shelf.Tests.{cond-true}
 use Rattle.grammar.specs.Lists.{has, add, addAll, tails}
-use Rattle.book.specs.Nodes.{Node, array, structure, fieldsOf, tailsFrom, tailsOf}
+use Rattle.book.specs.Nodes.{Node, structure, fieldsOf, tailsFrom, tailsOf}
 use Rattle.book.specs.Makers.{addTails}
 use Rattle.sheet.specs.Tails.{sameTail}
 use Rattle.sheet.proofs.Places.{tail-tells}

@@ -1,18 +1,16 @@
 -- A sheet keeps a good book, and its rows are those of the texts.
-use mathlib.Core.Path.{_≡_, refl, sym, ap, subst, _∙_}
+use mathlib.Core.Path.{_≡_, sym, ap, subst, _∙_}
 use mathlib.Core.List.{List, [], map}
-use Prim.Native.Nat.{ℕ, _<_, _≤_}
+use Prim.Native.Nat.{ℕ, _<_}
 use native.Mathlib.Omega.{arith}
-use lib.ListN.{length, getD, take}
+use lib.ListN.{length}
 use denote.Ref.{now}
 use Rattle.std.proofs.shelf.Lists.{getD-default, getD-map, length-map, length-take-le, same-lists}
-use Rattle.grammar.specs.Figures.{textFigures}
-use Rattle.rows.specs.declared.RowList.{RowList}
-use Rattle.book.specs.Plain.{Answer, Call, Limits, call, array, maybe, dict, structure}
+use Rattle.book.specs.Plain.{Answer, Call, array, maybe, dict, structure}
 use Rattle.book.specs.Plain
 use Rattle.book.specs.Nodes.{Node, shapesFrom, textsOf, tailsOf}
 use Rattle.book.specs.Makers.{arrayCall, maybeCall, dictCall, structureCall}
-use Rattle.book.specs.Rows.{typeKeyOf, fieldKeyOf, nodeKey, tailKey}
+use Rattle.book.specs.Rows.{nodeKey, tailKey}
 use Rattle.book.specs.Agree.{Good, Room}
 use Rattle.book.proofs.Places.{distinct-by-place}
 use Rattle.book.proofs.Agree.{good-sound}
@@ -21,11 +19,9 @@ use Rattle.book.proofs.TextFigures.{texts-figures}
 use Rattle.book.proofs.Rows.{type-keys, field-keys}
 use Rattle.book.proofs.Questions.{texts-count}
 use Rattle.book.proofs.MakersTold.{Told, array-told, maybe-told, dict-told, structure-told}
-use Rattle.sheet.specs.declared.row.TypeRow.{TypeRow}
-use Rattle.sheet.specs.declared.row.FieldRow.{FieldRow}
 use Rattle.sheet.specs.declared.sheet.Sheet.{Sheet}
-use Rattle.sheet.specs.Tails.{blankField, fieldKey, rowTails, FieldsGood}
-use Rattle.sheet.specs.Kept.{Kept, nodes, nodesOf, tailsIn, typesIn, fieldsIn, nodeOf, typeKey, figuresIn, blankType}
+use Rattle.sheet.specs.Tails.{blankField, fieldKey}
+use Rattle.sheet.specs.Kept.{Kept, nodes, nodesOf, tailsIn, typesIn, fieldsIn, nodeOf, typeKey, blankType}
 use Rattle.sheet.specs.Made.{Made, withTails}
 use Rattle.sheet.specs.Called.{bookOf, limitsOf, Stands, Called}
 use Rattle.sheet.proofs.Keep.{out}

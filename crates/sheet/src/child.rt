@@ -1,6 +1,5 @@
 // The parts of a container that is no structure.
 ghost use mathlib.Core.Path.{_≡_};
-ghost use Prim.Native.Nat.{ℕ};
 ghost use Rattle.std.specs.Results.{Cases};
 ghost use Rattle.grammar.specs.Refusals.{outcome};
 ghost use Rattle.sheet.specs.Kept.{nodesOf, fieldsIn};
@@ -48,9 +47,9 @@ impl<'a> Sheet<'a> {
         ensures same { λ _. ⌜ now (self .exit) ≡ now (self .entry) ⌝ }
         ensures answer { λ r. ⌜ outcome r ≡ keyOf (bookOf (now (self .entry) .types) (now (self .entry) .fields)) n ⌝ }
     {
-        let row = self.container(n)?;
-        if row.kind == DICT {
-            Ok(row.first)
+        let pair = self.container(n)?;
+        if pair.kind == DICT {
+            Ok(pair.first)
         } else {
             Err(Refusal::WrongKind)
         }

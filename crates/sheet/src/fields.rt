@@ -1,7 +1,6 @@
 // The fields of a structure.
 ghost use mathlib.Core.Path.{_≡_};
 ghost use mathlib.Core.List.{[], _∷_};
-ghost use Prim.Native.Nat.{ℕ};
 ghost use Rattle.std.specs.Options.{Cases as BySome};
 ghost use Rattle.grammar.specs.Refusals.{outcome};
 ghost use Rattle.sheet.specs.Kept.{tailsIn};

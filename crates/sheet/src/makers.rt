@@ -1,7 +1,7 @@
 // Signatures made from known numbers.
 ghost use mathlib.Core.Path.{_≡_};
 ghost use mathlib.Core.List.{[]};
-ghost use Prim.Native.Nat.{ℕ, _+_, _<_, _≤_};
+ghost use Prim.Native.Nat.{_+_, _<_};
 ghost use lib.ListN.{length};
 ghost use Rattle.grammar.specs.Refusals.{outcome};
 ghost use Rattle.std.specs.Results.{Cases};

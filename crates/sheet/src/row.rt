@@ -1,6 +1,5 @@
 // The rows of a sheet.
-ghost use mathlib.Core.List.{List, [], _∷_};
-ghost use Prim.Native.Nat.{ℕ};
+ghost use mathlib.Core.List.{[], _∷_};
 use grammar::figures::Figures;
 use rows::Row;
 

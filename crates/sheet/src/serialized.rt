@@ -1,6 +1,5 @@
 // The encoding formats.
 ghost use mathlib.Core.Path.{_≡_};
-ghost use lib.Chars.{codes};
 ghost use Rattle.sheet.specs.Format.{nameOf};
 
 #[derive(Clone, Copy, Drop, PartialEq, Eq, Debug)]

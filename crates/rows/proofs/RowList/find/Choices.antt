@@ -1,6 +1,5 @@
-use Prim.Native.Nat.{ℕ, _-_, _≤_}
+use Prim.Native.Nat.{_-_}
 use mathlib.Core.Path.{_≡_}
-use lib.ListN.{length}
 use denote.Ref.{now}
 use Rattle.rows.specs.Found.{Absent}
 use Rattle.rows.proofs.RowList.find.Given as given

@@ -1,5 +1,4 @@
 use mathlib.Core.Path.{_≡_, ap}
-use Prim.Native.Nat.{ℕ}
 use native.Mathlib.Omega.{arith}
 use Rattle.grammar.specs.declared.error.Refusal.the-variants.{Unknown}
 use Rattle.book.specs.Makers.{unknownAt}

@@ -1,6 +1,4 @@
 use mathlib.Core.Path.{_≡_}
-use Prim.Native.Nat.{_≤_}
-use lib.ListN.{length}
 use Rattle.sheet.specs.Laid.{Laid}
 use Rattle.sheet.proofs.lay.lay.Given as given
 

@@ -1,4 +1,3 @@
-use mathlib.Core.Path.{refl}
 use native.Mathlib.Omega.{arith}
 use Rattle.sheet.proofs.Keep.{out}
 use Rattle.sheet.proofs.Enter.{after, made-some, made-none}
