@@ -61,62 +61,74 @@ module _ (limits : Limits) (text : Text) (from : ℕ) (b : List Text) where
 
   pub array-stopped : (at to c : ℕ) (b₁ b′ : List Text) (x : Refusal) (r : Result ℕ Refusal) → drop from text ≡ c ∷ drop at text → c ≡ 97 → ((v : Text) → drop at text ≡ 123 ∷ v → ⊥)
       → Builds limits text at b (Err x) to b₁ → r ≡ Err x → BuildsBare limits text from b r to b′
-  array-stopped at to c b₁ b′ x r h q other built z = record { comes = λ t w nm e s.
-      let v = split-array text at c t w nm q (sym h ∙ e) other in
-      let g = built .comes (v .0) w (v .2) (omega (arith, shorter t (array (v .0)) (v .1) s)) in
-      retyped limits b t (array (v .0)) r b′ _ w (v .1) (no-room limits b b (array (v .0)) r x b′ _ w z (v .0) g (fits-part limits b (with b (v .0)) (array (v .0)) (with-array b (v .0)))) }
+  array-stopped at to c b₁ b′ x r h q other built z = record {
+    comes = λ t w nm e s.
+        let v = split-array text at c t w nm q (sym h ∙ e) other in
+        let g = built .comes (v .0) w (v .2) (omega (arith, shorter t (array (v .0)) (v .1) s)) in
+        retyped limits b t (array (v .0)) r b′ _ w (v .1) (no-room limits b b (array (v .0)) r x b′ _ w z (v .0) g (fits-part limits b (with b (v .0)) (array (v .0)) (with-array b (v .0))));
+  }
 
   pub array-built : (at to c n : ℕ) (b₁ b′ : List Text) (r : Result ℕ Refusal) → drop from text ≡ c ∷ drop at text → c ≡ 97 → ((v : Text) → drop at text ≡ 123 ∷ v → ⊥)
       → Builds limits text at b (Ok n) to b₁ → Says limits b₁ (Plain.array n) r b′ → BuildsBare limits text from b r to b′
-  array-built at to c n b₁ b′ r h q other built m = record { comes = λ t w nm e s.
-      let v = split-array text at c t w nm q (sym h ∙ e) other in
-      let s′ = shorter t (array (v .0)) (v .1) s in
-      let g = built .comes (v .0) w (v .2) (omega (arith, s′)) in
-      retyped limits b t (array (v .0)) r b′ _ w (v .1)
-      (comes-from limits b b₁ (array (v .0)) r b′ _ w (ap (λ (y : List Text). with y (array (v .0))) (g .book) ∙ with-array b (v .0)) (array-made limits b₁ n (v .0) r b′ _ w (g .filed) s′ m (g .onward))) }
+  array-built at to c n b₁ b′ r h q other built m = record {
+    comes = λ t w nm e s.
+        let v = split-array text at c t w nm q (sym h ∙ e) other in
+        let s′ = shorter t (array (v .0)) (v .1) s in
+        let g = built .comes (v .0) w (v .2) (omega (arith, s′)) in
+        retyped limits b t (array (v .0)) r b′ _ w (v .1)
+        (comes-from limits b b₁ (array (v .0)) r b′ _ w (ap (λ (y : List Text). with y (array (v .0))) (g .book) ∙ with-array b (v .0)) (array-made limits b₁ n (v .0) r b′ _ w (g .filed) s′ m (g .onward)));
+  }
 
   pub key-stopped : (at on to c : ℕ) (b₁ b′ : List Text) (x : Refusal) (r : Result ℕ Refusal) → drop from text ≡ c ∷ drop at text → c ≡ 97 → drop at text ≡ 123 ∷ drop on text
       → Builds limits text on b (Err x) to b₁ → r ≡ Err x → BuildsBare limits text from b r to b′
-  key-stopped at on to c b₁ b′ x r h q f built z = record { comes = λ t w nm e s.
-      let v = split-pair text at on c t w q (sym h ∙ e) f in
-      let k : Shape = v .0 in let u : Shape = v .1 in
-      let s′ = shorter t (dict k u) (v .2) s in
-      let g = built .comes k _ (v .3) (omega (arith, s′, length-append (printed k) (printed u ++ 125 ∷ []))) in
-      retyped limits b t (dict k u) r b′ _ w (v .2)
-      (no-room limits b b (dict k u) r x b′ _ w z k g (λ fit. fits-add limits (with b k) (map printed (containers u)) (fits-part limits b (with (with b k) u) (dict k u) (with-dict b k u) fit))) }
+  key-stopped at on to c b₁ b′ x r h q f built z = record {
+    comes = λ t w nm e s.
+        let v = split-pair text at on c t w q (sym h ∙ e) f in
+        let k : Shape = v .0 in let u : Shape = v .1 in
+        let s′ = shorter t (dict k u) (v .2) s in
+        let g = built .comes k _ (v .3) (omega (arith, s′, length-append (printed k) (printed u ++ 125 ∷ []))) in
+        retyped limits b t (dict k u) r b′ _ w (v .2)
+        (no-room limits b b (dict k u) r x b′ _ w z k g (λ fit. fits-add limits (with b k) (map printed (containers u)) (fits-part limits b (with (with b k) u) (dict k u) (with-dict b k u) fit)));
+  }
 
   pub value-stopped : (at on mid to c n : ℕ) (b₁ b₂ b′ : List Text) (x : Refusal) (r : Result ℕ Refusal) → drop from text ≡ c ∷ drop at text → c ≡ 97 → drop at text ≡ 123 ∷ drop on text
       → Builds limits text on b (Ok n) mid b₁ → Builds limits text mid b₁ (Err x) to b₂ → r ≡ Err x → BuildsBare limits text from b r to b′
-  value-stopped at on mid to c n b₁ b₂ b′ x r h q f key value z = record { comes = λ t w nm e s.
-      let v = split-pair text at on c t w q (sym h ∙ e) f in
-      let k : Shape = v .0 in let u : Shape = v .1 in
-      let s′ = shorter t (dict k u) (v .2) s in
-      let lk = length-append (printed k) (printed u ++ 125 ∷ []) in
-      let lu = length-append (printed u) (125 ∷ []) in
-      let g = key .comes k _ (v .3) (omega (arith, s′, lk)) in
-      let j = value .comes u _ (g .onward) (omega (arith, s′, lk, lu)) in
-      retyped limits b t (dict k u) r b′ _ w (v .2)
-      (no-room limits b b₁ (dict k u) r x b′ _ w z u j (λ fit. subst (λ (y : List Text). Fits limits (with y u)) (sym (g .book)) (fits-part limits b (with (with b k) u) (dict k u) (with-dict b k u) fit))) }
+  value-stopped at on mid to c n b₁ b₂ b′ x r h q f key value z = record {
+    comes = λ t w nm e s.
+        let v = split-pair text at on c t w q (sym h ∙ e) f in
+        let k : Shape = v .0 in let u : Shape = v .1 in
+        let s′ = shorter t (dict k u) (v .2) s in
+        let lk = length-append (printed k) (printed u ++ 125 ∷ []) in
+        let lu = length-append (printed u) (125 ∷ []) in
+        let g = key .comes k _ (v .3) (omega (arith, s′, lk)) in
+        let j = value .comes u _ (g .onward) (omega (arith, s′, lk, lu)) in
+        retyped limits b t (dict k u) r b′ _ w (v .2)
+        (no-room limits b b₁ (dict k u) r x b′ _ w z u j (λ fit. subst (λ (y : List Text). Fits limits (with y u)) (sym (g .book)) (fits-part limits b (with (with b k) u) (dict k u) (with-dict b k u) fit)));
+  }
 
   pub pair-built : (at on mid end to c n m : ℕ) (b₁ b₂ b′ : List Text) (d : Bool) (r : Result ℕ Refusal) → drop from text ≡ c ∷ drop at text → c ≡ 97 → drop at text ≡ 123 ∷ drop on text
       → Builds limits text on b (Ok n) mid b₁ → Builds limits text mid b₁ (Ok m) end b₂ → Eaten text end 125 d to → Says limits b₂ (Plain.dict n m) r b′ → BuildsBare limits text from b r to b′
-  pair-built at on mid end to c n m b₁ b₂ b′ d r h q f key value eaten says = record { comes = λ t w nm e s.
-      let v = split-pair text at on c t w q (sym h ∙ e) f in
-      let k : Shape = v .0 in let u : Shape = v .1 in
-      let s′ = shorter t (dict k u) (v .2) s in
-      let lk = length-append (printed k) (printed u ++ 125 ∷ []) in
-      let lu = length-append (printed u) (125 ∷ []) in
-      let g = key .comes k _ (v .3) (omega (arith, s′, lk)) in
-      let j = value .comes u _ (g .onward) (omega (arith, s′, lk, lu)) in
-      let filed : Filed b₂ n k = subst (λ (y : List Text). Filed y n k) (sym (j .book)) (filed-add b₁ (map printed (containers u)) n k (g .filed)) in
-      retyped limits b t (dict k u) r b′ _ w (v .2)
-      (comes-from limits b b₂ (dict k u) r b′ _ w (ap (λ (y : List Text). with y (dict k u)) (j .book ∙ ap (λ (y : List Text). with y u) (g .book)) ∙ with-dict b k u)
-      (dict-made limits b₂ n m k u r b′ _ w filed (j .filed) s′ says (closed text end to d w eaten (j .onward)))) }
+  pair-built at on mid end to c n m b₁ b₂ b′ d r h q f key value eaten says = record {
+    comes = λ t w nm e s.
+        let v = split-pair text at on c t w q (sym h ∙ e) f in
+        let k : Shape = v .0 in let u : Shape = v .1 in
+        let s′ = shorter t (dict k u) (v .2) s in
+        let lk = length-append (printed k) (printed u ++ 125 ∷ []) in
+        let lu = length-append (printed u) (125 ∷ []) in
+        let g = key .comes k _ (v .3) (omega (arith, s′, lk)) in
+        let j = value .comes u _ (g .onward) (omega (arith, s′, lk, lu)) in
+        let filed : Filed b₂ n k = subst (λ (y : List Text). Filed y n k) (sym (j .book)) (filed-add b₁ (map printed (containers u)) n k (g .filed)) in
+        retyped limits b t (dict k u) r b′ _ w (v .2)
+        (comes-from limits b b₂ (dict k u) r b′ _ w (ap (λ (y : List Text). with y (dict k u)) (j .book ∙ ap (λ (y : List Text). with y u) (g .book)) ∙ with-dict b k u)
+        (dict-made limits b₂ n m k u r b′ _ w filed (j .filed) s′ says (closed text end to d w eaten (j .onward))));
+  }
 
   pub structure-built : (at to c : ℕ) (b′ : List Text) (r : Result ℕ Refusal) → drop from text ≡ c ∷ drop at text → c ≡ 40 → BuildsFields limits text at b r to b′ → BuildsBare limits text from b r to b′
-  structure-built at to c b′ r h q built = record { comes = λ t w nm e s.
-      let v = split-structure text at c t w q (sym h ∙ e) in
-      retyped limits b t (structure (v .0) (v .1)) r b′ _ w (v .2) (built .comes (v .0) (v .1) w (v .3) (shorter t (structure (v .0) (v .1)) (v .2) s)) }
+  structure-built at to c b′ r h q built = record {
+    comes = λ t w nm e s.
+        let v = split-structure text at c t w q (sym h ∙ e) in
+        retyped limits b t (structure (v .0) (v .1)) r b′ _ w (v .2) (built .comes (v .0) (v .1) w (v .3) (shorter t (structure (v .0) (v .1)) (v .2) s));
+  }
 
   basic-by : (at c n : ℕ) → drop from text ≡ c ∷ drop at text → (c ≡ 97 → ⊥) → (c ≡ 40 → ⊥) → ((h : isBasic c ≡ true) → Filed b n (basic c h)) → (t : Shape) (w : Text) → NoMaybe t → drop from text ≡ printed t ++ w → Built limits b t n b (drop at text) w
   basic-by at c n h x y f (basic d i) w nm e = let p = un c d _ _ (sym h ∙ e) in record { book = refl; filed = coded d i (p .0); onward = p .1 }
@@ -137,18 +149,22 @@ module _ (limits : Limits) (text : Text) (from : ℕ) (b : List Text) where
   maybes-longer (suc k) t = omega (arith, maybes-longer k (maybe t))
 
   pub type-stopped : (at to k : ℕ) (b₁ b′ : List Text) (x : Refusal) (r : Result ℕ Refusal) → Skips text from k at → BuildsBare limits text at b (Err x) to b₁ → r ≡ Err x → Builds limits text from b r to b′
-  type-stopped at to k b₁ b′ x r skips built z = record { comes = λ t w e s.
-      let v = skips t w e in
-      let u : Shape = v .0 .shape in
-      let g = built .comes u w (v .1) (v .0 .here) (omega (arith, shorter t (maybes k u) (v .0 .is) s, maybes-longer k u)) in
-      retyped limits b t (maybes k u) r b′ _ w (v .0 .is) (no-room limits b b (maybes k u) r x b′ _ w z u g (fits-maybes limits b k u)) }
+  type-stopped at to k b₁ b′ x r skips built z = record {
+    comes = λ t w e s.
+        let v = skips t w e in
+        let u : Shape = v .0 .shape in
+        let g = built .comes u w (v .1) (v .0 .here) (omega (arith, shorter t (maybes k u) (v .0 .is) s, maybes-longer k u)) in
+        retyped limits b t (maybes k u) r b′ _ w (v .0 .is) (no-room limits b b (maybes k u) r x b′ _ w z u g (fits-maybes limits b k u));
+  }
 
   pub type-built : (at to k n : ℕ) (b₁ b′ : List Text) (r : Result ℕ Refusal) → Skips text from k at → BuildsBare limits text at b (Ok n) to b₁ → Wraps limits k n b₁ r b′ → Builds limits text from b r to b′
-  type-built at to k n b₁ b′ r skips built wraps = record { comes = λ t w e s.
-      let v = skips t w e in
-      let u : Shape = v .0 .shape in
-      let s′ = shorter t (maybes k u) (v .0 .is) s in
-      let g = built .comes u w (v .1) (v .0 .here) (omega (arith, s′, maybes-longer k u)) in
-      let settled : with b₁ u ≡ b₁ = ap (λ (y : List Text). with y u) (g .book) ∙ with-again b u ∙ sym (g .book) in
-      retyped limits b t (maybes k u) r b′ _ w (v .0 .is)
-      (comes-from limits b b₁ (maybes k u) r b′ _ w (ap (λ (y : List Text). with y (maybes k u)) (g .book) ∙ with-maybes b k u) (wraps .comes u (g .filed) settled s′ _ w (g .onward))) }
+  type-built at to k n b₁ b′ r skips built wraps = record {
+    comes = λ t w e s.
+        let v = skips t w e in
+        let u : Shape = v .0 .shape in
+        let s′ = shorter t (maybes k u) (v .0 .is) s in
+        let g = built .comes u w (v .1) (v .0 .here) (omega (arith, s′, maybes-longer k u)) in
+        let settled : with b₁ u ≡ b₁ = ap (λ (y : List Text). with y u) (g .book) ∙ with-again b u ∙ sym (g .book) in
+        retyped limits b t (maybes k u) r b′ _ w (v .0 .is)
+        (comes-from limits b b₁ (maybes k u) r b′ _ w (ap (λ (y : List Text). with y (maybes k u)) (g .book) ∙ with-maybes b k u) (wraps .comes u (g .filed) settled s′ _ w (g .onward)));
+  }

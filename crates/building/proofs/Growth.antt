@@ -46,7 +46,7 @@ with-maybe b t = let e = map-append printed (containers t) (maybe t ∷ []) in
 two : (b : List Text) (xs ys zs : List Shape) → addAll sameText (addAll sameText (addAll sameText b (map printed xs)) (map printed ys)) (map printed (xs ++ (ys ++ zs))) ≡ addAll sameText b (map printed (xs ++ (ys ++ zs)))
 two b xs ys zs =
     let e : map printed (xs ++ (ys ++ zs)) ≡ (map printed xs ++ map printed ys) ++ map printed zs =
-      map-append printed xs (ys ++ zs) ∙ ap (λ (z : List Text). map printed xs ++ z) (map-append printed ys zs) ∙ sym (append-assoc (map printed xs) (map printed ys) (map printed zs)) in
+    map-append printed xs (ys ++ zs) ∙ ap (λ (z : List Text). map printed xs ++ z) (map-append printed ys zs) ∙ sym (append-assoc (map printed xs) (map printed ys) (map printed zs)) in
     ap (addAll sameText (addAll sameText (addAll sameText b (map printed xs)) (map printed ys))) e
     ∙ ap (λ (c : List Text). addAll sameText c ((map printed xs ++ map printed ys) ++ map printed zs)) (sym (add-all-append same-texts b (map printed xs) (map printed ys)))
     ∙ again b (map printed xs ++ map printed ys) (map printed zs)

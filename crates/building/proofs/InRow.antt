@@ -110,9 +110,11 @@ fields-next limits text from at to n b ns ns′ b₁ b₂ other built e onward t
 
 pub fields-stopped : (limits : Limits) (text : Text) (from at to : ℕ) (b : List Text) (ns : List ℕ) (b₁ b₂ b′ : List Text) (x : Refusal) (r : Result ℕ Refusal) → Fielding text from at b ns b₁
     → ((v : Text) → drop at text ≡ 41 ∷ v → ⊥) → Builds limits text at b₁ (Err x) to b₂ → r ≡ Err x → BuildsFields limits text from b r to b′
-fields-stopped limits text from at to b ns b₁ b₂ b′ x r onward other built z = record { comes = λ t ts w e s.
-    let p = row-stopped limits text at (41 ∷ w) b (more t ts) ns b₁ (inner-short t ts s) to x b₂ (other w) built (onward t ts w e s) in
-    subst (λ (y : Result ℕ Refusal). Comes limits b (structure t ts) y b′ (drop to text) w) (sym z) (record { is = p .none .is; full = λ f. p .none .full (p .part (fits-all limits b t ts f)) }) }
+fields-stopped limits text from at to b ns b₁ b₂ b′ x r onward other built z = record {
+  comes = λ t ts w e s.
+      let p = row-stopped limits text at (41 ∷ w) b (more t ts) ns b₁ (inner-short t ts s) to x b₂ (other w) built (onward t ts w e s) in
+      subst (λ (y : Result ℕ Refusal). Comes limits b (structure t ts) y b′ (drop to text) w) (sym z) (record { is = p .none .is; full = λ f. p .none .full (p .part (fits-all limits b t ts f)) });
+}
 
 close-by : (text : Text) (at to : ℕ) (w : Text) (ts done rest : Shapes) → ts ≡ joined done rest → drop at text ≡ printedAll rest ++ 41 ∷ w → drop at text ≡ 41 ∷ drop to text → (ts ≡ done) × (drop to text ≡ w)
 close-by text at to w ts done nil a h f = (a ∙ joined-nil done, un 41 41 _ _ (sym f ∙ h) .1)
@@ -120,12 +122,14 @@ close-by text at to w ts done (more t us) a h f = absurd (never-41 t _ _ (sym f 
 
 pub fields-built : (limits : Limits) (text : Text) (from at to : ℕ) (b : List Text) (ns fs : List ℕ) (b₁ b′ : List Text) (r : Result ℕ Refusal) → Fielding text from at b ns b₁
     → drop at text ≡ 41 ∷ drop to text → fs ≡ ns → Says limits b₁ (Plain.structure fs) r b′ → BuildsFields limits text from b r to b′
-fields-built limits text from at to b ns fs b₁ b′ r onward f q says = record { comes = λ t ts w e s.
-    let o = onward t ts w e s in
-    let p = close-by text at to w (more t ts) (o .done) (o .rest) (o .all) (o .here) f in
-    let book : b₁ ≡ withAll b (more t ts) = o .book ∙ ap (withAll b) (sym (p .0)) in
-    let filed : FiledAll b₁ fs (more t ts) = subst (λ (x : List ℕ). FiledAll b₁ x (more t ts)) (sym q) (subst (FiledAll b₁ ns) (sym (p .0)) (o .filed)) in
-    comes-from limits b b₁ (structure t ts) r b′ _ w (ap (λ (y : List Text). with y (structure t ts)) book ∙ with-structure b t ts) (structure-made limits b₁ fs t ts r b′ _ w filed s says (p .1)) }
+fields-built limits text from at to b ns fs b₁ b′ r onward f q says = record {
+  comes = λ t ts w e s.
+      let o = onward t ts w e s in
+      let p = close-by text at to w (more t ts) (o .done) (o .rest) (o .all) (o .here) f in
+      let book : b₁ ≡ withAll b (more t ts) = o .book ∙ ap (withAll b) (sym (p .0)) in
+      let filed : FiledAll b₁ fs (more t ts) = subst (λ (x : List ℕ). FiledAll b₁ x (more t ts)) (sym q) (subst (FiledAll b₁ ns) (sym (p .0)) (o .filed)) in
+      comes-from limits b b₁ (structure t ts) r b′ _ w (ap (λ (y : List Text). with y (structure t ts)) book ∙ with-structure b t ts) (structure-made limits b₁ fs t ts r b′ _ w filed s says (p .1));
+}
 
 -- A number behind so many 'm', one after another.
 pub record Wrapped (limits : Limits) (many i n : ℕ) (b : List Text) (u : Shape) (m : ℕ) (b₁ : List Text) : Type 0 where
@@ -163,18 +167,22 @@ module _ (limits : Limits) (many i n m : ℕ) (b b₁ b₂ : List Text) (more-le
       record { shape = maybe (o .shape); is = o .is ∙ ap (λ (k : ℕ). maybes k (o .shape)) one-less; book = g .book; filed = g .filed }
 
   pub wrap-stopped : (x : Refusal) (r : Result ℕ Refusal) (b′ : List Text) → Says limits b₁ (Plain.maybe m) (Err x) b₂ → r ≡ Err x → Wraps limits many n b r b′
-  wrap-stopped x r b′ says z = record { comes = λ u f s h left rest l.
-      let o = on u f s h in let g = step (Err x) says u f s h in
-      let is′ : maybes many u ≡ maybes (many - (i + 1)) (maybe (o .shape)) = o .is ∙ ap (λ (k : ℕ). maybes k (o .shape)) one-less in
-      subst (λ (y : Result ℕ Refusal). Comes limits b (maybes many u) y b′ left rest) (sym z)
-      (record { is = g .is; full = λ fit. g .full (fits-maybes limits b (many - (i + 1)) (maybe (o .shape)) (subst (λ (y : Shape). Fits limits (with b y)) is′ fit)) }) }
+  wrap-stopped x r b′ says z = record {
+    comes = λ u f s h left rest l.
+        let o = on u f s h in let g = step (Err x) says u f s h in
+        let is′ : maybes many u ≡ maybes (many - (i + 1)) (maybe (o .shape)) = o .is ∙ ap (λ (k : ℕ). maybes k (o .shape)) one-less in
+        subst (λ (y : Result ℕ Refusal). Comes limits b (maybes many u) y b′ left rest) (sym z)
+        (record { is = g .is; full = λ fit. g .full (fits-maybes limits b (many - (i + 1)) (maybe (o .shape)) (subst (λ (y : Shape). Fits limits (with b y)) is′ fit)) });
+  }
 
 pub wrap-end : (limits : Limits) (many i n m : ℕ) (b b₁ : List Text) → many ≤ i → Wrapping limits many i n b m b₁ → Wraps limits many n b (Ok m) b₁
-wrap-end limits many i n m b b₁ l on = record { comes = λ u f s h left rest e.
-    let o = on u f s h in
-    let z : many - i ≡ 0 = omega arith in
-    let is′ : maybes many u ≡ o .shape = o .is ∙ ap (λ (k : ℕ). maybes k (o .shape)) z in
-    subst (λ (y : Shape). Comes limits b y (Ok m) b₁ left rest) (sym is′) (record { book = o .book; filed = o .filed; onward = e }) }
+wrap-end limits many i n m b b₁ l on = record {
+  comes = λ u f s h left rest e.
+      let o = on u f s h in
+      let z : many - i ≡ 0 = omega arith in
+      let is′ : maybes many u ≡ o .shape = o .is ∙ ap (λ (k : ℕ). maybes k (o .shape)) z in
+      subst (λ (y : Shape). Comes limits b y (Ok m) b₁ left rest) (sym is′) (record { book = o .book; filed = o .filed; onward = e });
+}
 
 -- A whole text.
 abbrev pub Wholing : Text → ℕ → List Text → List ℕ → List Text → Type 0
@@ -203,9 +211,11 @@ stopped-by limits b (more t (more v us)) c b′ u x r z p q n =
 
 pub whole-stopped : (limits : Limits) (text : Text) (at to : ℕ) (b : List Text) (ns : List ℕ) (b₁ b₂ b′ : List Text) (x : Refusal) (r : Result ℕ Refusal) → at < length text → Builds limits text at b₁ (Err x) to b₂ → r ≡ Err x
     → Wholing text at b ns b₁ → BuildsWhole limits text b r b′
-whole-stopped limits text at to b ns b₁ b₂ b′ x r l built z on = record { comes = λ ts e w s.
-    let p = row-stopped limits text at [] b ts ns b₁ (text-short text ts e s) to x b₂ (some-left text at l) built (on ts e s) in
-    stopped-by limits b ts b₁ b′ (p .shape) x r z (p .none) (p .part) (λ n. omega (arith, l, ap length e, ap (λ (y : Shapes). length (printedAll y)) n)) }
+whole-stopped limits text at to b ns b₁ b₂ b′ x r l built z on = record {
+  comes = λ ts e w s.
+      let p = row-stopped limits text at [] b ts ns b₁ (text-short text ts e s) to x b₂ (some-left text at l) built (on ts e s) in
+      stopped-by limits b ts b₁ b′ (p .shape) x r z (p .none) (p .part) (λ n. omega (arith, l, ap length e, ap (λ (y : Shapes). length (printedAll y)) n));
+}
 
 ended : (text : Text) (at : ℕ) (ts done rest : Shapes) → length text ≤ at → ts ≡ joined done rest → drop at text ≡ printedAll rest ++ [] → ts ≡ done
 ended text at ts done nil l a h = a ∙ joined-nil done

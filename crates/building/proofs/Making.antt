@@ -119,8 +119,8 @@ module _ (limits : Limits) (b : List Text) (c : Call) (t : Shape)
           let g = grown-with b t in
           let book : b′ ≡ with b t = f ∙ ap (λ (z : Outcome ℕ × List Text). z .1) q ∙ g in
           let n-is : n ≡ Plain.numberOf b′ (printed t) =
-            same-accepted n (Plain.numberOf (grown b (printed t)) (printed t)) (e ∙ ap (λ (z : Outcome ℕ × List Text). z .0) q)
-            ∙ ap (λ (z : List Text). Plain.numberOf z (printed t)) (g ∙ sym book) in
+          same-accepted n (Plain.numberOf (grown b (printed t)) (printed t)) (e ∙ ap (λ (z : Outcome ℕ × List Text). z .0) q)
+          ∙ ap (λ (z : List Text). Plain.numberOf z (printed t)) (g ∙ sym book) in
           record {
             book = book;
             filed = filed-by b′ t n (subst (λ (z : List Text). In (printed t) (known z)) (sym book) (in-with b t box)) n-is;
@@ -139,7 +139,7 @@ module _ (limits : Limits) (b : List Text) (c : Call) (t : Shape)
       let q = call-is ∙ ap (λ (x : Bool). answered b (printed t) (when x 8)) h in
       let e = grown-with b t ∙ sym (g .book) in
       let n-is : Plain.numberOf (grown b (printed t)) (printed t) ≡ n =
-        ap (λ (z : List Text). Plain.numberOf z (printed t)) e ∙ ap (Plain.numberOf b′) (sym (g .filed .text)) ∙ place-at same-texts (known b′) n [] d (g .filed .within) in
+      ap (λ (z : List Text). Plain.numberOf z (printed t)) e ∙ ap (Plain.numberOf b′) (sym (g .filed .text)) ∙ place-at same-texts (known b′) n [] d (g .filed .within) in
       (sym (ap (λ (z : Outcome ℕ × List Text). z .0) q ∙ ap accepted n-is), ap (λ (z : Outcome ℕ × List Text). z .1) q ∙ e)
   told (Err x) b′ g f d = by (cases-bool over)
     where

@@ -114,4 +114,3 @@ split-structure text at b (maybe t) w q e = absurd (omega (arith, un b 109 _ _ e
 pub closed : (text : Text) (at to : ℕ) (r : Bool) (w : Text) → Eaten text at 125 r to → drop at text ≡ 125 ∷ w → drop to text ≡ w
 closed text at to true w x e = un 125 125 _ _ (sym (x .here) ∙ e) .1
 closed text at to false w x e = absurd (x .other w e)
-

@@ -63,8 +63,8 @@ module _ (limits : Limits) (b : List Text) (w : Text) where
   unfolding call
   read-unit e f h v =
       let fits : (ltb (limits .types) (length (grown b [])) || ltb (limits .fields) (length (tailsOf (grown b [])))) ≡ false =
-        ap (λ (z : List Text). ltb (limits .types) (length z) || ltb (limits .fields) (length (tailsOf z))) unit-grown
-        ∙ or-false _ _ (le-ltb (limits .types) (length b) (f .types)) (le-ltb (limits .fields) (length (tailsOf b)) (f .fields)) in
+      ap (λ (z : List Text). ltb (limits .types) (length z) || ltb (limits .fields) (length (tailsOf z))) unit-grown
+      ∙ or-false _ _ (le-ltb (limits .types) (length b) (f .types)) (le-ltb (limits .fields) (length (tailsOf b)) (f .fields)) in
       ap (λ (x : Text). answered b x (early (fromBytes w) (length b) else late limits (needed b x))) (whole-is nil e ∙ e)
       ∙ ap (λ (r : Refusing). answered b [] (r else late limits (needed b []))) (none-early h v)
       ∙ ap (λ (x : Bool). answered b [] (when x 8)) fits

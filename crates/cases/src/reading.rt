@@ -16,7 +16,10 @@ fn valid(text: &[u8]) -> Result<(), Fail> {
 }
 
 fn faulty(text: &[u8], cause: Cause, place: usize) -> Result<(), Fail> {
-    check_eq(validate(text), Err(Refusal::Invalid(Fault { cause, place })))
+    check_eq(
+        validate(text),
+        Err(Refusal::Invalid(Fault { cause, place })),
+    )
 }
 
 #[test]
@@ -68,7 +71,11 @@ fn counts_arrays() -> Result<(), Fail> {
 #[test]
 fn counts_structures() -> Result<(), Fail> {
     valid(b"((((((((((((((((((((((((((((((((y))))))))))))))))))))))))))))))))")?;
-    faulty(b"(((((((((((((((((((((((((((((((((y)))))))))))))))))))))))))))))))))", Cause::TooDeep, 32)?;
+    faulty(
+        b"(((((((((((((((((((((((((((((((((y)))))))))))))))))))))))))))))))))",
+        Cause::TooDeep,
+        32,
+    )?;
     faulty(b"((((((((((((((((((((((((((((((((a(y", Cause::TooDeep, 33)
 }
 
@@ -81,15 +88,29 @@ fn counts_a_dictionary_as_an_array() -> Result<(), Fail> {
 
 #[test]
 fn counts_each_kind_by_itself() -> Result<(), Fail> {
-    valid(b"a(a(a(a(a(a(a(a(a(a(a(a(a(a(a(a(a(a(a(a(a(a(a(a(a(a(a(a(a(a(a(a(y))))))))))))))))))))))))))))))))")?;
-    faulty(b"a(a(a(a(a(a(a(a(a(a(a(a(a(a(a(a(a(a(a(a(a(a(a(a(a(a(a(a(a(a(a(a(a", Cause::TooDeep, 64)?;
-    faulty(b"a(a(a(a(a(a(a(a(a(a(a(a(a(a(a(a(a(a(a(a(a(a(a(a(a(a(a(a(a(a(a(a((", Cause::TooDeep, 64)
+    valid(
+        b"a(a(a(a(a(a(a(a(a(a(a(a(a(a(a(a(a(a(a(a(a(a(a(a(a(a(a(a(a(a(a(a(y))))))))))))))))))))))))))))))))",
+    )?;
+    faulty(
+        b"a(a(a(a(a(a(a(a(a(a(a(a(a(a(a(a(a(a(a(a(a(a(a(a(a(a(a(a(a(a(a(a(a",
+        Cause::TooDeep,
+        64,
+    )?;
+    faulty(
+        b"a(a(a(a(a(a(a(a(a(a(a(a(a(a(a(a(a(a(a(a(a(a(a(a(a(a(a(a(a(a(a(a((",
+        Cause::TooDeep,
+        64,
+    )
 }
 
 #[test]
 fn counts_no_maybe() -> Result<(), Fail> {
     valid(b"mmmmmmmmmmmmmmmmmmmmmmmmmmmmmmmmmmmmmmmmy")?;
-    faulty(b"mamamamamamamamamamamamamamamamamamamamamamamamamamamamamamamamamay", Cause::TooDeep, 65)
+    faulty(
+        b"mamamamamamamamamamamamamamamamamamamamamamamamamamamamamamamamamay",
+        Cause::TooDeep,
+        65,
+    )
 }
 
 #[test]

@@ -6,7 +6,12 @@ use sheet::row::TypeRow;
 use sheet::sheet::Sheet;
 use std::io;
 
-fn show(rt: &LibcRuntime, name: &str, r: Result<u16, Refusal>, counts: (usize, usize)) -> io::Result<()> {
+fn show(
+    rt: &LibcRuntime,
+    name: &str,
+    r: Result<u16, Refusal>,
+    counts: (usize, usize),
+) -> io::Result<()> {
     let (types, fields) = counts;
     match r {
         Ok(n) => println!(rt, "{name}: {n}, rows {types} {fields}"),
@@ -34,7 +39,10 @@ fn deep(rt: &LibcRuntime) -> io::Result<()> {
     show(rt, "one array more", r, sheet.counts())?;
     let length = sheet.string_len(n).unwrap_or(0);
     let (structures, arrays) = sheet.depths(n).unwrap_or((0, 0));
-    println!(rt, "{made} arrays: number {n}, length {length}, depths {structures} {arrays}")
+    println!(
+        rt,
+        "{made} arrays: number {n}, length {length}, depths {structures} {arrays}"
+    )
 }
 
 // A structure of as many fields as can be, and of one more; and texts of as many types.
@@ -69,11 +77,11 @@ fn maybes(rt: &LibcRuntime) -> io::Result<()> {
     show(rt, "65520 m", r, sheet.counts())
 }
 
-// A text that needs two type rows and three field rows, on a sheet with so many of each.
+// A text that needs two type rows and four field rows, on a sheet with so many of each.
 fn few(rt: &LibcRuntime, types: usize, fields: usize) -> io::Result<()> {
     let mut type_rows = [TypeRow::BLANK; 2];
-    let mut field_rows = [FieldRow::BLANK; 3];
-    if types > 2 || fields > 3 {
+    let mut field_rows = [FieldRow::BLANK; 4];
+    if types > 2 || fields > 4 {
         return Ok(());
     }
     let mut sheet = Sheet::open(&mut type_rows[..types], &mut field_rows[..fields]);
@@ -87,8 +95,8 @@ fn main(rt: LibcRuntime) -> io::Result<()> {
     deep(&rt)?;
     wide(&rt)?;
     maybes(&rt)?;
+    few(&rt, 2, 4)?;
+    few(&rt, 1, 4)?;
     few(&rt, 2, 3)?;
-    few(&rt, 1, 3)?;
-    few(&rt, 2, 2)?;
     few(&rt, 0, 0)
 }

@@ -8,13 +8,17 @@ ghost use Rattle.grammar.specs.Scan.{one, others, close};
 ghost use Rattle.reader.specs.Parsing.{Parsed, Reading, CountedOr};
 ghost use Rattle.reader.specs.Judged.{Judged, CountedIn};
 use crate::cursor::Cursor;
-use grammar::error::{Cause, Fault, Refusal, RefusalFromFault};
+use grammar::error::Cause;
+use grammar::error::Fault;
+use grammar::error::Refusal;
+use grammar::error::RefusalFromFault;
 
 // How many bytes a text to be read may have.
 const LONGEST_TEXT: usize = 65_535;
 
 // How deep structures may be nested, and how deep arrays and dictionaries.
 const MAX_STRUCT_DEPTH: u8 = 32;
+
 const MAX_ARRAY_DEPTH: u8 = 32;
 
 // Whether `b` is the code of a basic type.

@@ -52,7 +52,11 @@ fn main(rt: LibcRuntime) -> io::Result<()> {
     while rest.len() > 0 {
         let end = line_length(rest);
         file(&rt, &mut sheet, &rest[..end])?;
-        rest = if end < rest.len() { &rest[end + 1..] } else { &rest[end..] };
+        rest = if end < rest.len() {
+            &rest[end + 1..]
+        } else {
+            &rest[end..]
+        };
     }
     Ok(())
 }

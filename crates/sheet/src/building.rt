@@ -54,7 +54,12 @@ fn wrap(sheet: &mut Sheet, n: u16, maybes: usize) -> Result<u16, Refusal>
 }
 
 // The types up to `)`, and the structure of them.
-fn many(sheet: &mut Sheet, cursor: &mut Cursor, pending: &mut [u16], base: usize) -> Result<u16, Refusal>
+fn many(
+    sheet: &mut Sheet,
+    cursor: &mut Cursor,
+    pending: &mut [u16],
+    base: usize,
+) -> Result<u16, Refusal>
     requires room { ⌜ base + (length (now (now cursor .text)) - now cursor .at) ≤ length (now pending) ⌝ }
     ensures text { λ _. ⌜ now (now (cursor .exit) .text) ≡ now (now (cursor .entry) .text) ⌝ }
     ensures forward { λ r. ⌜ Cases r (λ n. now (cursor .entry) .at < now (cursor .exit) .at) (λ e. Unit {0}) ⌝ }
@@ -72,7 +77,12 @@ fn many(sheet: &mut Sheet, cursor: &mut Cursor, pending: &mut [u16], base: usize
 }
 
 // A complete type that is no maybe.
-fn bare_signature(sheet: &mut Sheet, cursor: &mut Cursor, pending: &mut [u16], top: usize) -> Result<u16, Refusal>
+fn bare_signature(
+    sheet: &mut Sheet,
+    cursor: &mut Cursor,
+    pending: &mut [u16],
+    top: usize,
+) -> Result<u16, Refusal>
     requires room { ⌜ top + (length (now (now cursor .text)) - now cursor .at) ≤ length (now pending) ⌝ }
     ensures text { λ _. ⌜ now (now (cursor .exit) .text) ≡ now (now (cursor .entry) .text) ⌝ }
     ensures forward { λ r. ⌜ Cases r (λ n. now (cursor .entry) .at < now (cursor .exit) .at) (λ e. Unit {0}) ⌝ }
@@ -101,7 +111,12 @@ fn bare_signature(sheet: &mut Sheet, cursor: &mut Cursor, pending: &mut [u16], t
 }
 
 // A complete type.
-fn signature(sheet: &mut Sheet, cursor: &mut Cursor, pending: &mut [u16], top: usize) -> Result<u16, Refusal>
+fn signature(
+    sheet: &mut Sheet,
+    cursor: &mut Cursor,
+    pending: &mut [u16],
+    top: usize,
+) -> Result<u16, Refusal>
     requires room { ⌜ top + (length (now (now cursor .text)) - now cursor .at) ≤ length (now pending) ⌝ }
     ensures text { λ _. ⌜ now (now (cursor .exit) .text) ≡ now (now (cursor .entry) .text) ⌝ }
     ensures forward { λ r. ⌜ Cases r (λ n. now (cursor .entry) .at < now (cursor .exit) .at) (λ e. Unit {0}) ⌝ }

@@ -42,7 +42,11 @@ fn build(sheet: &mut Sheet, text: &[u8]) -> Result<u16, Refusal>
     ensures grew { λ _. ⌜ Grew (now (sheet .entry) .types) (now (sheet .entry) .fields) (now (sheet .exit) .types) (now (sheet .exit) .fields) ⌝ }
     ensures builds { λ r. ⌜ BuildsWhole (limitsOf (now (sheet .entry) .types) (now (sheet .entry) .fields)) (now (text .entry)) (bookOf (now (sheet .entry) .types) (now (sheet .entry) .fields)) r (bookOf (now (sheet .exit) .types) (now (sheet .exit) .fields)) ⌝ }
 {
-    if text.len() <= FEW { short(sheet, text) } else { long(sheet, text) }
+    if text.len() <= FEW {
+        short(sheet, text)
+    } else {
+        long(sheet, text)
+    }
 }
 
 impl<'a> Sheet<'a> {

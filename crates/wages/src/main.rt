@@ -9,9 +9,13 @@ use std::io;
 
 // The numbers of basic types.
 const UNIT: u16 = 0;
+
 const U32: u16 = 6;
+
 const I64: u16 = 7;
+
 const F64: u16 = 9;
+
 const STR: u16 = 10;
 
 fn figures(rt: &LibcRuntime, name: &str, sheet: &mut Sheet, n: u16) -> io::Result<()> {
@@ -21,11 +25,19 @@ fn figures(rt: &LibcRuntime, name: &str, sheet: &mut Sheet, n: u16) -> io::Resul
     let fixed = sheet.is_fixed_sized(n).unwrap_or(false);
     let maybe = sheet.contains_maybe(n).unwrap_or(false);
     let (structures, arrays) = sheet.depths(n).unwrap_or((0, 0));
-    println!(rt, "{name}: {n}, length {length}, alignment {dbus} {gvariant}, fixed {fixed}, maybe {maybe}, depths {structures} {arrays}")
+    println!(
+        rt,
+        "{name}: {n}, length {length}, alignment {dbus} {gvariant}, fixed {fixed}, maybe {maybe}, depths {structures} {arrays}"
+    )
 }
 
 // The account's line for what a maker answered.
-fn show(rt: &LibcRuntime, name: &str, sheet: &mut Sheet, r: Result<u16, Refusal>) -> io::Result<u16> {
+fn show(
+    rt: &LibcRuntime,
+    name: &str,
+    sheet: &mut Sheet,
+    r: Result<u16, Refusal>,
+) -> io::Result<u16> {
     match r {
         Ok(n) => {
             figures(rt, name, sheet, n)?;

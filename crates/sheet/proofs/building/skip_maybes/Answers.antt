@@ -18,6 +18,7 @@ returns c =
     let i = c .loop .inv in
     let a = stayed-in (i .0) (c .loop-test .ensures tt .eaten) in
     record {
-        text = c .eat .ensures .text ∙ i .0;
-        forward = omega (arith, a .same, i .1);
-        skips = λ t w e. skipped _ _ _ _ _ t w (a .same) (omega (arith, a .same)) (i .2 t w e) (a .other) }
+      text = c .eat .ensures .text ∙ i .0;
+      forward = omega (arith, a .same, i .1);
+      skips = λ t w e. skipped _ _ _ _ _ t w (a .same) (omega (arith, a .same)) (i .2 t w e) (a .other);
+    }

@@ -11,7 +11,7 @@ abbrev pub Inv-loop : given.InvT-loop
 Inv-loop l =
     (now (l .cursor .text) ≡ now (l .entry .cursor .text)) × (l .entry .cursor .at ≤ l .cursor .at)
     × ((t : Shape) (w : Text) → drop (l .entry .cursor .at) (now (l .entry .cursor .text)) ≡ printed t ++ w
-        → Behind (now (l .entry .cursor .text)) (l .cursor .at) (l .cursor .at - l .entry .cursor .at) t w)
+    → Behind (now (l .entry .cursor .text)) (l .cursor .at) (l .cursor .at - l .entry .cursor .at) t w)
 
 abbrev pub μ-loop : given.MeasureT-loop
 μ-loop l = length (now (l .cursor .text)) - l .cursor .at

@@ -27,7 +27,7 @@ loop-cursor-again c =
       simp length-set (omega (arith, i .1, f, lt, h)),
       grew-trans _ _ _ _ _ _ (i .2) (c .signature .ensures .grew),
       whole-next _ _ _ _ _ _ _ _ _ _ h (builds-at (i .0) refl (limits-grew _ _ _ _ (i .2)) (c .in-Continue-n .ensures tt .builds))
-      (pushed (c .loop-cursor .pending) (c .signature .last .pending) 0 (c .loop-cursor .top) (c .in-Continue-n .n) (omega arith) l (c .signature .ensures .kept)) (i .3),
+          (pushed (c .loop-cursor .pending) (c .signature .last .pending) 0 (c .loop-cursor .top) (c .in-Continue-n .n) (omega arith) l (c .signature .ensures .kept)) (i .3),
     )
 
 pub returns-in-Break-n : need.returns-in-Break-n
