@@ -8,7 +8,7 @@ use Prim.Native.Nat.{ℕ, _≤_, _<_}
 use native.Mathlib.Omega.{arith}
 use lib.Dec.{ltb}
 use lib.ListN.{length, length-append}
-use Rattle.std.proofs.shelf.Tests.{ltb-false}
+use Rattle.std.proofs.shelf.Tests.{ltb-false, le-ltb}
 use Rattle.grammar.specs.Lists.{In, Distinct, sameList, addAll, tails}
 use Rattle.grammar.specs.Shape.{Text, basicCodes, Shape, basic, array, maybe, dict, structure, printed}
 use Rattle.grammar.specs.Parts.{containers, fields, Container, Within}
@@ -18,7 +18,7 @@ use Rattle.grammar.proofs.ReadBack.{reading-printed, reading-empty, printed-inj
 use Rattle.book.specs.Plain.{Call, Answer, Limits, Refusing, longestForm, sameText, single, known, textOf, numberOf, wholeText, containersOf, fieldsOf, grown, tailsFrom, tailsOf, when, _else_, early, late, needed, answered, call, run}
 use Rattle.book.specs.Nodes.{basics}
 use Rattle.book.specs.History.{Result, ContainerText, Tail, After-any-calls, OneMore, One-more-call}
-use Rattle.book.proofs.Lists.{Decides, same-lists, place-in, in-add-all, add-all-in, distinct-add-all, tail-in, in-tail, map-in}
+use Rattle.book.proofs.Lists.{Decides, same-lists, place-in, in-add-all, add-all-in, add-all-old, distinct-add-all, tail-in, in-tail, map-in}
 use Rattle.book.proofs.NodeShapes.{same-texts}
 use Rattle.book.proofs.Sound.{start, in-map}
 use Rattle.book.proofs.Interned.{known-is, empty-not}
@@ -237,9 +237,17 @@ facts limits cs =
     some-tail t (inl i) = absurd i
     some-tail t (inr r) = tail-of (run limits [] cs .0) (run limits [] cs .1) of t r
 
+-- nothing new
+nothing-new : (limits : Limits) (b : List Text) → Fits limits b → (c : Call) → early c (length b) ≡ none → length (wholeText b c) ≤ longestForm
+    → ((w : Text) → In w (containersOf (reading (wholeText b c))) → In w b) → call limits b c ≡ (accepted (numberOf b (wholeText b c)), b)
+unfolding call
+nothing-new limits b room c e l h =
+    let g : grown b (wholeText b c) ≡ b = add-all-old same-texts b (containersOf (reading (wholeText b c))) h in
+    rw e (rw g (rw (le-ltb longestForm (length (wholeText b c)) l) (rw (le-ltb (limits .types) (length b) (room .0)) (rw (le-ltb (limits .fields) (length (tailsOf b)) (room .1)) (λ i. (accepted (numberOf (g i) (wholeText b c)), g i))))))
+
 -- one call
-one-call : (limits : Limits) (b : List Text) → Backed b → (c : Call) → OneMore limits b c
-one-call limits b k c = go (done limits b k c .0)
+one-call : (limits : Limits) (b : List Text) → Backed b → Fits limits b → (c : Call) → OneMore limits b c
+one-call limits b k room c = go (done limits b k c .0)
   where
     lasting : (n : ℕ) → n < length (known b) → textOf (call limits b c .1) n ≡ textOf b n
     lasting n l = let p = longer-call limits b k c in ap (λ (z : List Text). textOf z n) (p .1) ∙ known-keeps b (p .0) n l
@@ -249,6 +257,7 @@ one-call limits b k c = go (done limits b k c .0)
       refusal = λ e vs h. l .book;
       accepts = λ n h. let z : refused (l .number) (l .values) ≡ accepted n = sym (l .answer) ∙ h in absurd (true≢false cc);
       lasts = lasting;
+      again = nothing-new limits b room c;
     }
     go (inr t) = record {
       refusal = λ e vs h. let z : accepted (numberOf (grown b (wholeText b c)) (wholeText b c)) ≡ refused e vs = sym (t .answer) ∙ h in absurd (true≢false cc);
@@ -256,7 +265,8 @@ one-call limits b k c = go (done limits b k c .0)
           let m : numberOf (grown b (wholeText b c)) (wholeText b c) ≡ n = let z : accepted (numberOf (grown b (wholeText b c)) (wholeText b c)) ≡ accepted n = sym (t .answer) ∙ h in cc in
           ap₂ textOf (t .book) (sym m) ∙ place-in same-texts (known (grown b (wholeText b c))) (wholeText b c) [] (t .written) .1;
       lasts = lasting;
+      again = nothing-new limits b room c;
     }
 
 pub one-more : One-more-call
-one-more limits cs c = one-call limits (run limits [] cs .1) (backed limits [] none-yet cs) c
+one-more limits cs c = one-call limits (run limits [] cs .1) (backed limits [] none-yet cs) (fits-run limits [] (omega arith) cs) c

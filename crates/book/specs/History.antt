@@ -2,13 +2,15 @@
 use mathlib.Core.Path.{_≡_}
 use mathlib.Core.List.{List, [], _++_, map}
 use mathlib.Core.Logic.{_↔_}
+use mathlib.Core.Option.{none}
 use Prim.Native.Nat.{ℕ, _≤_, _<_}
 use lib.ListN.{length}
 use Rattle.grammar.specs.Lists.{In, Distinct}
 use Rattle.grammar.specs.Shape.{Text, Shape, printed}
 use Rattle.grammar.specs.Parts.{fields, Container, Within}
+use Rattle.grammar.specs.Read.{reading}
 use Rattle.grammar.specs.Refusals.{accepted, refused}
-use Rattle.book.specs.Plain.{Answer, Call, Limits, known, textOf, wholeText, call, run, tailsOf}
+use Rattle.book.specs.Plain.{Answer, Call, Limits, longestForm, known, textOf, numberOf, wholeText, containersOf, early, call, run, tailsOf}
 
 -- The shape is that of an accepted result, or of a part of one.
 pub record Result (answers : List Answer) (b : List Text) (part : Shape) : Type 0 where
@@ -50,11 +52,14 @@ abbrev pub After-any-calls : Type 0
 After-any-calls = (limits : Limits) (cs : List Call) → Facts limits (run limits [] cs .0) (run limits [] cs .1)
 
 -- One more call after any calls: a refused call changes nothing; an accepted one answers the number of its text, and
--- each number has the text that it had.
+-- each number has the text that it had. Where each container met in the call's text has a number, and neither the
+-- arguments nor the text's length refuse the call, it adds nothing and answers the number that the text has.
 pub record OneMore (limits : Limits) (b : List Text) (c : Call) : Type 0 where
   pub refusal : (e : ℕ) (values : List ℕ) → call limits b c .0 ≡ refused e values → call limits b c .1 ≡ b
   pub accepts : (n : ℕ) → call limits b c .0 ≡ accepted n → textOf (call limits b c .1) n ≡ wholeText b c
   pub lasts : (n : ℕ) → n < length (known b) → textOf (call limits b c .1) n ≡ textOf b n
+  pub again : early c (length b) ≡ none → length (wholeText b c) ≤ longestForm
+      → ((w : Text) → In w (containersOf (reading (wholeText b c))) → In w b) → call limits b c ≡ (accepted (numberOf b (wholeText b c)), b)
 
 abbrev pub One-more-call : Type 0
 One-more-call = (limits : Limits) (cs : List Call) (c : Call) → OneMore limits (run limits [] cs .1) c

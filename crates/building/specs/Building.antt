@@ -27,6 +27,10 @@ with b t = addAll sameText b (map printed (containers t))
 abbrev pub withAll : List Text → Shapes → List Text
 withAll b ts = addAll sameText b (map printed (containersAll ts))
 
+-- A structure entered after its fields leaves the book that it leaves when entered alone.
+abbrev pub Fields-first : Type 0
+Fields-first = (b : List Text) (t : Shape) (ts : Shapes) → with (withAll b (more t ts)) (structure t ts) ≡ with b (structure t ts)
+
 -- n is the number of the shape in the book
 pub record Filed (b : List Text) (n : ℕ) (t : Shape) : Type 0 where
   pub within : n < length (known b)
