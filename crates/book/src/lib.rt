@@ -1,4 +1,6 @@
 // The plain book of texts, and what it holds after any calls: each function stands for the theorem in its contract.
+#![tactic(auto)]
+
 ghost use Rattle.book.specs.Agree.{EachCallAgrees, EachRunAgrees};
 ghost use Rattle.book.specs.History.{AfterAnyCalls, OneMoreCall};
 

@@ -1,4 +1,6 @@
 // The types of a text, entered one after another with a maker, and what that does to the plain book.
+#![tactic(auto)]
+
 ghost use Rattle.building.specs.Building.{FieldsFirst};
 
 pub mod entering;

@@ -1,5 +1,7 @@
 // Files each line of standard input on a sheet, as `shapes` does, and reads each printed form again: it has to give the
 // same number, or be too deep to be read. A form that does neither is named, and so are rows that it added.
+#![tactic(auto)]
+
 use grammar::error::{Cause, Refusal};
 use intake::filed::Filed;
 use intake::filing::{LONGEST_FORM, file};

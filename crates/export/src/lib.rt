@@ -1,4 +1,6 @@
 // Reading for C: whether a text is a signature, or else why and where it is none.
+#![tactic(auto)]
+
 ghost use Rattle.std.specs.Prelude.{◌≡◌};
 ghost use Rattle.export.specs.Replies.{reply_of, Replied};
 

@@ -1,4 +1,6 @@
 // The grammar of D-Bus and GVariant signatures: its definitions and laws, and what a call says when it refuses.
+#![tactic(auto)]
+
 pub mod error;
 pub mod figures;
 pub mod laws;

@@ -1,5 +1,7 @@
 // A hotel's day: the shapes that its clock boxes send are read and built on a fresh sheet, some are refused, and the
 // account is printed.
+#![tactic(auto)]
+
 use grammar::error::Refusal;
 use history::account::Account;
 use history::calls::Call;

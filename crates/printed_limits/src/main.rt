@@ -1,4 +1,6 @@
 // Tries a sheet at its limits: the deepest and the widest shapes, and as many rows as there are.
+#![tactic(auto)]
+
 use grammar::error::Refusal;
 use printing::bytes::byte_at;
 use sheet::row::{FieldRow, TypeRow};

@@ -1,4 +1,6 @@
 // Reads signatures, and says where a text goes wrong.
+#![tactic(auto)]
+
 pub mod cursor;
 pub mod reading;
 

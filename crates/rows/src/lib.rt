@@ -1,4 +1,6 @@
 // Lists of rows without repetition, on rows that the caller lends.
+#![tactic(auto)]
+
 ghost use Rattle.std.specs.Prelude.{◌≡◌, ℕ, ◌+◌, ◌<◌, ◌≤◌, min, true, List, length, MatchOption, slice_index_or};
 ghost use Rattle.rows.specs.Found.{used, Absent, Located, Place, Refused};
 

@@ -1,4 +1,6 @@
 // Files each line of standard input on a sheet, and says its number, or else why and where it is no signature.
+#![tactic(auto)]
+
 ghost use Rattle.std.specs.Prelude.{◌≤◌, length, IfOk};
 
 use sheet::row::{FieldRow, TypeRow};

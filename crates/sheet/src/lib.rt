@@ -1,4 +1,6 @@
 // A sheet of signatures: equal shapes have one number, on rows that the caller lends.
+#![tactic(auto)]
+
 pub mod child;
 pub mod comparison;
 pub mod fields;

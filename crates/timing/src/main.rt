@@ -3,6 +3,8 @@
 // usage: timing JOB TIMES
 // Every line is filed on one sheet. The job is then done so many times with each line that does not begin with `#`, and
 // the answers are added up. What is written tells that the work was done, and not how long it took.
+#![tactic(auto)]
+
 use anyhow::anyhow;
 use printing::comparison::eq_text;
 use printing::printing::to_string;

@@ -1,4 +1,6 @@
 // Builds the shapes of a wage run from their parts, and prints the account: each shape's number and figures.
+#![tactic(auto)]
+
 use grammar::error::Refusal;
 use sheet::row::{FieldRow, TypeRow};
 use sheet::serialized::Format;

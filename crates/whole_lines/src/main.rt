@@ -1,4 +1,6 @@
 // Files each line of standard input on a sheet, and says its number, figures and printed form, or else why it is refused.
+#![tactic(auto)]
+
 use intake::filing::{LONGEST_FORM, file};
 use intake::input::read_input;
 use intake::lines::Lines;
