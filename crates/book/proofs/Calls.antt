@@ -1,6 +1,6 @@
 -- A call of the book over numbers answers as the plain book does.
 use Rattle.std.proofs.Common.{◌≡◌, ℕ, ◌+◌, ◌-◌, Bool, true, false, cond, eqb, ltb, ◌⊎◌, List, [], ◌∷◌, ◌++◌, map, length, sym, refl, ap, ◌∙◌, subst, ap₂, inl, inr, true≢false, append_assoc, append-nil, arith}
-use mathlib.Core.List.{map_append}
+use mathlib.Core.List.{map-append}
 use mathlib.Core.Option.{Option, none, some}
 use lib.ListN.{length-map}
 use Rattle.std.proofs.lemmas.Bool.{ltb-false, eqb-false}
@@ -84,7 +84,7 @@ grown_node : (ns : List Node) (ss : List Shape) → Sound ns ss → (x : Node) �
 grown_node ns ss g x k =
     ap (λ (o : Option Shape). add_all same_text (map printed ss) (containers_of o)) (reading_printed (node_shape ss x))
     ∙ ap (λ (z : List Shape). add_all same_text (map printed ss) (map printed z)) (inner_is ss x k)
-    ∙ ap (add_all same_text (map printed ss)) (map_append printed (inner (node_shape ss x)) (node_shape ss x ∷ []))
+    ∙ ap (add_all same_text (map printed ss)) (map-append printed (inner (node_shape ss x)) (node_shape ss x ∷ []))
     ∙ add_all_append same_texts (map printed ss) (map printed (inner (node_shape ss x))) (printed (node_shape ss x) ∷ [])
     ∙ ap (λ (z : List Text). add same_text z (printed (node_shape ss x))) (add_all_old same_texts (map printed ss) (map printed (inner (node_shape ss x))) (inside (inner (node_shape ss x)) (inner_in ss g.closed x k)))
   where

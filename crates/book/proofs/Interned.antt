@@ -1,6 +1,6 @@
 -- What entering a container, or all of a tree, comes to.
 use Rattle.std.proofs.Common.{◌≡◌, ℕ, zero, suc, ◌+◌, ◌-◌, ◌<◌, true, false, eqb, ◌⊎◌, List, [], ◌∷◌, ◌++◌, map, length, get_or, sym, refl, ap, ◌∙◌, subst, ap₂, inl, inr, true≢false, append_assoc, append-nil, arith, length-append}
-use mathlib.Core.List.{map_append}
+use mathlib.Core.List.{map-append}
 use lib.ListN.{length-map}
 use Rattle.std.proofs.lemmas.List.{get_or_append_left, map_push, length_push, get_or-map, get_or_push}
 use Rattle.std.proofs.lemmas.Bool.{cases_Bool}
@@ -112,10 +112,10 @@ kept_at : (ss r new : List Shape) → new ≡ ss ++ r → (n : ℕ) → Part (le
 kept_at ss r new e n p = (omega (arith, ap length e, length-append ss r), ap (λ (z : List Shape). shape_at z n) e ∙ at_more ss r n p)
 
 add_last : (b : List Text) (xs : List Shape) (s : Shape) → add_all same_text b (map printed (xs ++ s ∷ [])) ≡ add same_text (add_all same_text b (map printed xs)) (printed s)
-add_last b xs s = ap (add_all same_text b) (map_append printed xs (s ∷ [])) ∙ add_all_append same_texts b (map printed xs) (printed s ∷ [])
+add_last b xs s = ap (add_all same_text b) (map-append printed xs (s ∷ [])) ∙ add_all_append same_texts b (map printed xs) (printed s ∷ [])
 
 add_both : (b : List Text) (xs ys : List Shape) → add_all same_text b (map printed (xs ++ ys)) ≡ add_all same_text (add_all same_text b (map printed xs)) (map printed ys)
-add_both b xs ys = ap (add_all same_text b) (map_append printed xs ys) ∙ add_all_append same_texts b (map printed xs) (map printed ys)
+add_both b xs ys = ap (add_all same_text b) (map-append printed xs ys) ∙ add_all_append same_texts b (map printed xs) (map printed ys)
 
 abbrev put : List Shape → List Shape → List Text
 put ss cs = add_all same_text (map printed ss) (map printed cs)
@@ -180,7 +180,7 @@ mutual
 
 -- numbers and texts
 pub known_is : (ss : List Shape) → known (map printed ss) ≡ [] ∷ map printed (basics ++ ss)
-known_is ss = ap (λ (z : List Text). [] ∷ z) (ap (λ (z : List Text). z ++ map printed ss) (sym basics_texts) ∙ sym (map_append printed basics ss))
+known_is ss = ap (λ (z : List Text). [] ∷ z) (ap (λ (z : List Text). z ++ map printed ss) (sym basics_texts) ∙ sym (map-append printed basics ss))
 
 pub text_is : (ss : List Shape) (n : ℕ) → Part (length ss) n → text_of (map printed ss) n ≡ printed (shape_at ss n)
 text_is ss n p = ap (λ (z : List Text). get_or z n []) (known_is ss) ∙ by n p
