@@ -7,39 +7,39 @@ use Rattle.building.proofs.InRow.{row_start, none_yet, pushed, sliced, below, be
 use Rattle.building.proofs.Shifts.{goes_still, goes_on, says_at, builds_at, bare_at, fields_at, wraps_at, on_ok, on_err, ok_before}
 use Rattle.building.proofs.entering.+bare_signature_many_signature.Goals as goal
 
-pub bare-signature-returns-in-default : goal.bare-signature-returns-in-default
-bare-signature-returns-in-default g t c = record {
+pub bare_signature-returns-in_default : goal.bare_signature-returns-in_default
+bare_signature-returns-in_default g t c = record {
   text = c.take.ensures.text;
   forward = tt;
   kept = refl;
   grew = goes_still;
-  builds = bare_ended _ _ _ _ _ _ _ c.in-default.ensures.byte.0;
+  builds = bare_ended _ _ _ _ _ _ _ c.in_default.ensures.byte.0;
 }
 
-pub bare-signature-returns-in-err-key : goal.bare-signature-returns-in-err-key
-bare-signature-returns-in-err-key g t c =
+pub bare_signature-returns-in_err-key : goal.bare_signature-returns-in_err-key
+bare_signature-returns-in_err-key g t c =
     let t0 = c.take.ensures.text in
     let t1 = c.eat.ensures.text ∙ t0 in
     let x = c.in-Some.ensures.byte in
     let a = ate_in t0 c.if-eat.ensures.eaten in
-    let p = err_from_is_err_and c.from-residual.result c.from-residual.ensures.1 in
+    let p = err_from_is_err_and c.from_residual.result c.from_residual.ensures.1 in
     let e = p.1 ∙ ap Err p.2 in
     record {
       text = c.signature.ensures.text ∙ t1;
       forward = on_err _ _ _ e;
       kept = c.signature.ensures.kept;
       grew = c.signature.ensures.grew;
-      builds = key_stopped _ _ _ _ _ _ _ _ _ _ _ _ (byte_here _ _ _ _ x) c.if-b-eq97.true a.here (builds_at t1 refl refl c.in-err-key.ensures.builds) e;
+      builds = key_stopped _ _ _ _ _ _ _ _ _ _ _ _ (byte_here _ _ _ _ x) c.if-b-eq97.true a.here (builds_at t1 refl refl c.in_err-key.ensures.builds) e;
     }
 
-pub bare-signature-returns-in-err-value : goal.bare-signature-returns-in-err-value
-bare-signature-returns-in-err-value g t c =
+pub bare_signature-returns-in_err-value : goal.bare_signature-returns-in_err-value
+bare_signature-returns-in_err-value g t c =
     let t0 = c.take.ensures.text in
     let t1 = c.eat.ensures.text ∙ t0 in
     let t2 = c.signature.ensures.text ∙ t1 in
     let x = c.in-Some.ensures.byte in
     let a = ate_in t0 c.if-eat.ensures.eaten in
-    let r = c.from-residual-in-err-value in
+    let r = c.from_residual-in_err-value in
     let p = err_from_is_err_and r.result r.ensures.1 in
     let e = p.1 ∙ ap Err p.2 in
     let k = c.signature.ensures.grew in
@@ -48,16 +48,16 @@ bare-signature-returns-in-err-value g t c =
       forward = on_err _ _ _ e;
       kept = c.signature-then-eat.ensures.kept ∙ c.signature.ensures.kept;
       grew = goes_on k c.signature-then-eat.ensures.grew;
-      builds = value_stopped _ _ _ _ _ _ _ _ _ _ _ _ _ _ _ (byte_here _ _ _ _ x) c.if-b-eq97.true a.here (builds_at t1 refl refl c.in-ok-key.ensures.builds) (builds_at t2 refl k.limits c.in-err-value.ensures.builds) e;
+      builds = value_stopped _ _ _ _ _ _ _ _ _ _ _ _ _ _ _ (byte_here _ _ _ _ x) c.if-b-eq97.true a.here (builds_at t1 refl refl c.in_ok-key.ensures.builds) (builds_at t2 refl k.limits c.in_err-value.ensures.builds) e;
     }
 
-pub bare-signature-returns-in-err-child : goal.bare-signature-returns-in-err-child
-bare-signature-returns-in-err-child g t c =
+pub bare_signature-returns-in_err-child : goal.bare_signature-returns-in_err-child
+bare_signature-returns-in_err-child g t c =
     let t0 = c.take.ensures.text in
     let t1 = c.eat.ensures.text ∙ t0 in
     let x = c.in-Some.ensures.byte in
     let a = stayed_in t0 c.if-eat.ensures.eaten in
-    let r = c.from-residual-in-err-child in
+    let r = c.from_residual-in_err-child in
     let p = err_from_is_err_and r.result r.ensures.1 in
     let e = p.1 ∙ ap Err p.2 in
     record {
@@ -65,11 +65,11 @@ bare-signature-returns-in-err-child g t c =
       forward = on_err _ _ _ e;
       kept = c.signature-else-eat.ensures.kept;
       grew = c.signature-else-eat.ensures.grew;
-      builds = array_stopped _ _ _ _ _ _ _ _ _ _ _ (byte_here _ _ _ _ x) c.if-b-eq97.true a.other (builds_at t1 a.same refl c.in-err-child.ensures.builds) e;
+      builds = array_stopped _ _ _ _ _ _ _ _ _ _ _ (byte_here _ _ _ _ x) c.if-b-eq97.true a.other (builds_at t1 a.same refl c.in_err-child.ensures.builds) e;
     }
 
-pub bare-signature-returns-in-ok-value : goal.bare-signature-returns-in-ok-value
-bare-signature-returns-in-ok-value g t c =
+pub bare_signature-returns-in_ok-value : goal.bare_signature-returns-in_ok-value
+bare_signature-returns-in_ok-value g t c =
     let t0 = c.take.ensures.text in
     let t1 = c.eat.ensures.text ∙ t0 in
     let t2 = c.signature.ensures.text ∙ t1 in
@@ -80,14 +80,14 @@ bare-signature-returns-in-ok-value g t c =
     let k2 = goes_on k c.signature-then-eat.ensures.grew in
     record {
       text = c.eat-then-eat.ensures.text ∙ t3;
-      forward = on_ok (c.args.cursor.now.at < c.eat-then-eat.new.self.at) c.make-dict.result (omega (arith, x.1, a.past, c.in-ok-key.ensures.forward, c.in-ok-value.ensures.forward, eaten_on _ _ _ _ c.eat-then-eat.result c.eat-then-eat.ensures.eaten));
+      forward = on_ok (c.args.cursor.now.at < c.eat-then-eat.new.self.at) c.make_dict.result (omega (arith, x.1, a.past, c.in_ok-key.ensures.forward, c.in_ok-value.ensures.forward, eaten_on _ _ _ _ c.eat-then-eat.result c.eat-then-eat.ensures.eaten));
       kept = c.signature-then-eat.ensures.kept ∙ c.signature.ensures.kept;
-      grew = goes_on k2 c.make-dict.ensures.grew;
-      builds = pair_built _ _ _ _ _ _ _ _ _ _ _ _ _ _ _ c.eat-then-eat.result _ (byte_here _ _ _ _ x) c.if-b-eq97.true a.here (builds_at t1 refl refl c.in-ok-key.ensures.builds) (builds_at t2 refl k.limits c.in-ok-value.ensures.builds) (eaten_in _ _ _ c.eat-then-eat.result t3 c.eat-then-eat.ensures.eaten) (says_at k2.limits c.make-dict.ensures.says);
+      grew = goes_on k2 c.make_dict.ensures.grew;
+      builds = pair_built _ _ _ _ _ _ _ _ _ _ _ _ _ _ _ c.eat-then-eat.result _ (byte_here _ _ _ _ x) c.if-b-eq97.true a.here (builds_at t1 refl refl c.in_ok-key.ensures.builds) (builds_at t2 refl k.limits c.in_ok-value.ensures.builds) (eaten_in _ _ _ c.eat-then-eat.result t3 c.eat-then-eat.ensures.eaten) (says_at k2.limits c.make_dict.ensures.says);
     }
 
-pub bare-signature-returns-in-ok-child : goal.bare-signature-returns-in-ok-child
-bare-signature-returns-in-ok-child g t c =
+pub bare_signature-returns-in_ok-child : goal.bare_signature-returns-in_ok-child
+bare_signature-returns-in_ok-child g t c =
     let t0 = c.take.ensures.text in
     let t1 = c.eat.ensures.text ∙ t0 in
     let x = c.in-Some.ensures.byte in
@@ -95,14 +95,14 @@ bare-signature-returns-in-ok-child g t c =
     let k = c.signature-else-eat.ensures.grew in
     record {
       text = c.signature-else-eat.ensures.text ∙ t1;
-      forward = on_ok (c.args.cursor.now.at < c.signature-else-eat.new.cursor.at) c.make-array.result (omega (arith, x.1, a.same, c.in-ok-child.ensures.forward));
+      forward = on_ok (c.args.cursor.now.at < c.signature-else-eat.new.cursor.at) c.make_array.result (omega (arith, x.1, a.same, c.in_ok-child.ensures.forward));
       kept = c.signature-else-eat.ensures.kept;
-      grew = goes_on k c.make-array.ensures.grew;
-      builds = array_built _ _ _ _ _ _ _ _ _ _ _ (byte_here _ _ _ _ x) c.if-b-eq97.true a.other (builds_at t1 a.same refl c.in-ok-child.ensures.builds) (says_at k.limits c.make-array.ensures.says);
+      grew = goes_on k c.make_array.ensures.grew;
+      builds = array_built _ _ _ _ _ _ _ _ _ _ _ (byte_here _ _ _ _ x) c.if-b-eq97.true a.other (builds_at t1 a.same refl c.in_ok-child.ensures.builds) (says_at k.limits c.make_array.ensures.says);
     }
 
-pub bare-signature-returns-then-b-eq40 : goal.bare-signature-returns-then-b-eq40
-bare-signature-returns-then-b-eq40 g t c =
+pub bare_signature-returns-then-b-eq40 : goal.bare_signature-returns-then-b-eq40
+bare_signature-returns-then-b-eq40 g t c =
     let t0 = c.take.ensures.text in
     let x = c.in-Some.ensures.byte in
     record {
@@ -113,40 +113,40 @@ bare-signature-returns-then-b-eq40 g t c =
       builds = structure_built _ _ _ _ _ _ _ _ _ (byte_here _ _ _ _ x) c.if-b-eq40.true (fields_at t0 refl c.many.ensures.builds);
     }
 
-pub bare-signature-returns-else-b-eq40 : goal.bare-signature-returns-else-b-eq40
-bare-signature-returns-else-b-eq40 g t c =
+pub bare_signature-returns-else-b-eq40 : goal.bare_signature-returns-else-b-eq40
+bare_signature-returns-else-b-eq40 g t c =
     let x = c.in-Some.ensures.byte in
     record {
       text = c.take.ensures.text;
       forward = omega (arith, x.1);
       kept = refl;
       grew = goes_still;
-      builds = basic_built _ _ _ _ _ _ _ (byte_here _ _ _ _ x) c.if-b-eq97.false c.if-b-eq40.false (λ h. code_filed _ _ _ h (c.code-number.ensures h));
+      builds = basic_built _ _ _ _ _ _ _ (byte_here _ _ _ _ x) c.if-b-eq97.false c.if-b-eq40.false (λ h. code_filed _ _ _ h (c.code_number.ensures h));
     }
 
-pub signature-returns-in-err-n : goal.signature-returns-in-err-n
-signature-returns-in-err-n g t c =
-    let t0 = c.skip-maybes-maybes.ensures.text in
-    let p = err_from_is_err_and c.from-residual.result c.from-residual.ensures.1 in
+pub signature-returns-in_err-n : goal.signature-returns-in_err-n
+signature-returns-in_err-n g t c =
+    let t0 = c.skip_maybes-maybes.ensures.text in
+    let p = err_from_is_err_and c.from_residual.result c.from_residual.ensures.1 in
     let e = p.1 ∙ ap Err p.2 in
     record {
-      text = c.bare-signature.ensures.text ∙ t0;
+      text = c.bare_signature.ensures.text ∙ t0;
       forward = on_err _ _ _ e;
-      kept = c.bare-signature.ensures.kept;
-      grew = c.bare-signature.ensures.grew;
-      builds = type_stopped _ _ _ _ _ _ _ _ _ _ _ c.skip-maybes-maybes.ensures.skips (bare_at t0 refl c.in-err-n.ensures.builds) e;
+      kept = c.bare_signature.ensures.kept;
+      grew = c.bare_signature.ensures.grew;
+      builds = type_stopped _ _ _ _ _ _ _ _ _ _ _ c.skip_maybes-maybes.ensures.skips (bare_at t0 refl c.in_err-n.ensures.builds) e;
     }
 
 pub signature-returns : goal.signature-returns
 signature-returns g t c =
-    let t0 = c.skip-maybes-maybes.ensures.text in
-    let k = c.bare-signature.ensures.grew in
+    let t0 = c.skip_maybes-maybes.ensures.text in
+    let k = c.bare_signature.ensures.grew in
     record {
-      text = c.bare-signature.ensures.text ∙ t0;
-      forward = on_ok (c.args.cursor.now.at < c.bare-signature.new.cursor.at) c.wrap.result (omega (arith, c.skip-maybes-maybes.ensures.forward, c.in-ok-n.ensures.forward));
-      kept = c.bare-signature.ensures.kept;
+      text = c.bare_signature.ensures.text ∙ t0;
+      forward = on_ok (c.args.cursor.now.at < c.bare_signature.new.cursor.at) c.wrap.result (omega (arith, c.skip_maybes-maybes.ensures.forward, c.in_ok-n.ensures.forward));
+      kept = c.bare_signature.ensures.kept;
       grew = goes_on k c.wrap.ensures.grew;
-      builds = type_built _ _ _ _ _ _ _ _ _ _ _ c.skip-maybes-maybes.ensures.skips (bare_at t0 refl c.in-ok-n.ensures.builds) (wraps_at k.limits c.wrap.ensures.wraps);
+      builds = type_built _ _ _ _ _ _ _ _ _ _ _ c.skip_maybes-maybes.ensures.skips (bare_at t0 refl c.in_ok-n.ensures.builds) (wraps_at k.limits c.wrap.ensures.wraps);
     }
 
 pub many-loop-maker-init : goal.many-loop-maker-init
@@ -157,7 +157,7 @@ many-loop-maker-preserved g t c =
     let i = c.loop-maker.invariant in
     let a = stayed_in i.0 c.loop-maker-test.ensures.eaten in
     let t1 = c.eat.ensures.text ∙ i.0 in
-    let f = c.in-ok-n.ensures.forward in
+    let f = c.in_ok-n.ensures.forward in
     let li = ap length i.0 in
     let lt = ap length t1 in
     let lr = ap length (c.signature.ensures.text ∙ t1) in
@@ -168,22 +168,22 @@ many-loop-maker-preserved g t c =
       simp length-set (omega (arith, i.3, a.same, f, lt, lr, li)),
       below_set _ _ _ _ _ i.2 c.signature.ensures.kept ∙ i.4,
       goes_on i.5 c.signature.ensures.grew,
-      fields_next _ _ _ _ _ _ _ _ _ _ _ a.other (builds_at t1 a.same i.5.limits c.in-ok-n.ensures.builds) (pushed _ _ _ _ _ i.2 l c.signature.ensures.kept) i.6,
+      fields_next _ _ _ _ _ _ _ _ _ _ _ a.other (builds_at t1 a.same i.5.limits c.in_ok-n.ensures.builds) (pushed _ _ _ _ _ i.2 l c.signature.ensures.kept) i.6,
     )
 
-pub many-returns-in-err-n : goal.many-returns-in-err-n
-many-returns-in-err-n g t c =
+pub many-returns-in_err-n : goal.many-returns-in_err-n
+many-returns-in_err-n g t c =
     let i = c.loop-maker.invariant in
     let a = stayed_in i.0 c.loop-maker-test.ensures.eaten in
     let t1 = c.eat.ensures.text ∙ i.0 in
-    let p = err_from_is_err_and c.from-residual.result c.from-residual.ensures.1 in
+    let p = err_from_is_err_and c.from_residual.result c.from_residual.ensures.1 in
     let e = p.1 ∙ ap Err p.2 in
     record {
       text = c.signature.ensures.text ∙ t1;
       forward = on_err _ _ _ e;
       kept = below _ _ _ _ i.2 c.signature.ensures.kept ∙ i.4;
       grew = goes_on i.5 c.signature.ensures.grew;
-      builds = fields_stopped _ _ _ _ _ _ _ _ _ _ _ _ i.6 a.other (builds_at t1 a.same i.5.limits c.in-err-n.ensures.builds) e;
+      builds = fields_stopped _ _ _ _ _ _ _ _ _ _ _ _ i.6 a.other (builds_at t1 a.same i.5.limits c.in_err-n.ensures.builds) e;
     }
 
 pub many-returns : goal.many-returns
@@ -192,8 +192,8 @@ many-returns g t c =
     let a = ate_in i.0 c.loop-maker-test.ensures.eaten in
     record {
       text = c.eat.ensures.text ∙ i.0;
-      forward = on_ok (c.args.cursor.now.at < c.eat.new.self.at) c.make-structure.result (omega (arith, i.1, a.past));
+      forward = on_ok (c.args.cursor.now.at < c.eat.new.self.at) c.make_structure.result (omega (arith, i.1, a.past));
       kept = i.4;
-      grew = goes_on i.5 c.make-structure.ensures.grew;
-      builds = fields_built _ _ _ _ _ _ _ _ _ _ _ i.6 a.here (sliced _ _ _ i.2) (says_at i.5.limits c.make-structure.ensures.says);
+      grew = goes_on i.5 c.make_structure.ensures.grew;
+      builds = fields_built _ _ _ _ _ _ _ _ _ _ _ i.6 a.here (sliced _ _ _ i.2) (says_at i.5.limits c.make_structure.ensures.says);
     }

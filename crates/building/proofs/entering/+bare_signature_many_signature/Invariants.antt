@@ -9,8 +9,8 @@ decreases-many g l = 3 * (length l.cursor.now.text.now - l.cursor.now.at) + 2
 abbrev pub decreases-signature : goal.decreases-signature
 decreases-signature g l = 3 * (length l.cursor.now.text.now - l.cursor.now.at) + 1
 
-abbrev pub decreases-bare-signature : goal.decreases-bare-signature
-decreases-bare-signature g l = 3 * (length l.cursor.now.text.now - l.cursor.now.at)
+abbrev pub decreases-bare_signature : goal.decreases-bare_signature
+decreases-bare_signature g l = 3 * (length l.cursor.now.text.now - l.cursor.now.at)
 
 abbrev pub invariant-many-loop-maker : goal.invariant-many-loop-maker
 invariant-many-loop-maker g l =

@@ -14,25 +14,25 @@ pub loop-cursor-preserved : goal.loop-cursor-preserved
 loop-cursor-preserved g c =
     let i = c.loop-cursor.invariant in
     let t1 = c.signature.ensures.text ∙ i.0 in
-    let f = c.in-ok-n.ensures.forward in
+    let f = c.in_ok-n.ensures.forward in
     let lt = ap length t1 in
-    let h : c.loop-cursor.cursor.at < length c.args.text.now = omega (arith, c.at-end.ensures.more c.loop-cursor-test.true, ap length i.0) in
+    let h : c.loop-cursor.cursor.at < length c.args.text.now = omega (arith, c.at_end.ensures.more c.loop-cursor-test.true, ap length i.0) in
     let l : c.loop-cursor.top < length c.signature.new.pending = omega (arith, i.1, h) in (
       t1,
       simp length-set (omega (arith, i.1, f, lt, h)),
       goes_on i.2 c.signature.ensures.grew,
-      whole_next _ _ _ _ _ _ _ _ _ _ h (builds_at i.0 refl i.2.limits c.in-ok-n.ensures.builds)
-          (pushed c.loop-cursor.pending c.signature.new.pending 0 c.loop-cursor.top c.in-ok-n.n (omega arith) l c.signature.ensures.kept) i.3,
+      whole_next _ _ _ _ _ _ _ _ _ _ h (builds_at i.0 refl i.2.limits c.in_ok-n.ensures.builds)
+          (pushed c.loop-cursor.pending c.signature.new.pending 0 c.loop-cursor.top c.in_ok-n.n (omega arith) l c.signature.ensures.kept) i.3,
     )
 
-pub returns-in-err-n : goal.returns-in-err-n
-returns-in-err-n g c =
+pub returns-in_err-n : goal.returns-in_err-n
+returns-in_err-n g c =
     let i = c.loop-cursor.invariant in
-    let p = err_from_is_err_and c.from-residual.result c.from-residual.ensures.1 in
-    let h : c.loop-cursor.cursor.at < length c.args.text.now = omega (arith, c.at-end.ensures.more c.loop-cursor-test.true, ap length i.0) in
+    let p = err_from_is_err_and c.from_residual.result c.from_residual.ensures.1 in
+    let h : c.loop-cursor.cursor.at < length c.args.text.now = omega (arith, c.at_end.ensures.more c.loop-cursor-test.true, ap length i.0) in
     record {
       grew = goes_on i.2 c.signature.ensures.grew;
-      builds = whole_stopped _ _ _ _ _ _ _ _ _ _ _ h (builds_at i.0 refl i.2.limits c.in-err-n.ensures.builds) (p.1 ∙ ap Err p.2) i.3;
+      builds = whole_stopped _ _ _ _ _ _ _ _ _ _ _ h (builds_at i.0 refl i.2.limits c.in_err-n.ensures.builds) (p.1 ∙ ap Err p.2) i.3;
     }
 
 pub returns-then-top-eq0 : goal.returns-then-top-eq0
@@ -40,7 +40,7 @@ returns-then-top-eq0 g c =
     let i = c.loop-cursor.invariant in
     let h : c.loop-cursor.top ≤ length c.loop-cursor.pending = omega (arith, i.1) in
     let l = length-take-le c.loop-cursor.top c.loop-cursor.pending h in
-    let e : length c.args.text.now ≤ c.loop-cursor.cursor.at = omega (arith, c.at-end.ensures.ended c.loop-cursor-test.false, ap length i.0) in
+    let e : length c.args.text.now ≤ c.loop-cursor.cursor.at = omega (arith, c.at_end.ensures.ended c.loop-cursor-test.false, ap length i.0) in
     record { grew = i.2; builds = whole_none _ _ _ _ _ _ e (l ∙ c.if-top-eq0.true) i.3 }
 
 pub returns-then-top-eq1 : goal.returns-then-top-eq1
@@ -48,7 +48,7 @@ returns-then-top-eq1 g c =
     let i = c.loop-cursor.invariant in
     let h : c.loop-cursor.top ≤ length c.loop-cursor.pending = omega (arith, i.1) in
     let l = length-take-le c.loop-cursor.top c.loop-cursor.pending h in
-    let e : length c.args.text.now ≤ c.loop-cursor.cursor.at = omega (arith, c.at-end.ensures.ended c.loop-cursor-test.false, ap length i.0) in
+    let e : length c.args.text.now ≤ c.loop-cursor.cursor.at = omega (arith, c.at_end.ensures.ended c.loop-cursor-test.false, ap length i.0) in
     record { grew = i.2; builds = whole_one _ _ _ _ _ _ _ e (l ∙ c.if-top-eq1.true) (sym (get_or-take c.loop-cursor.top c.loop-cursor.pending 0 0 (omega (arith, c.if-top-eq1.true)))) i.3 }
 
 pub returns-else-top-eq1 : goal.returns-else-top-eq1
@@ -56,8 +56,8 @@ returns-else-top-eq1 g c =
     let i = c.loop-cursor.invariant in
     let h : c.loop-cursor.top ≤ length c.loop-cursor.pending = omega (arith, i.1) in
     let l = length-take-le c.loop-cursor.top c.loop-cursor.pending h in
-    let e : length c.args.text.now ≤ c.loop-cursor.cursor.at = omega (arith, c.at-end.ensures.ended c.loop-cursor-test.false, ap length i.0) in
+    let e : length c.args.text.now ≤ c.loop-cursor.cursor.at = omega (arith, c.at_end.ensures.ended c.loop-cursor-test.false, ap length i.0) in
     record {
-      grew = goes_on i.2 c.make-structure.ensures.grew;
-      builds = whole_many _ _ _ _ _ _ _ c.make-structure.result e (omega (arith, l, c.if-top-eq0.false, c.if-top-eq1.false)) i.3 (says_at i.2.limits c.make-structure.ensures.says);
+      grew = goes_on i.2 c.make_structure.ensures.grew;
+      builds = whole_many _ _ _ _ _ _ _ c.make_structure.result e (omega (arith, l, c.if-top-eq0.false, c.if-top-eq1.false)) i.3 (says_at i.2.limits c.make_structure.ensures.says);
     }

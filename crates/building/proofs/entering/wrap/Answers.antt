@@ -10,16 +10,16 @@ loop-i-init g c = (goes_still, wrap_start _ _ _ _ _ refl)
 pub loop-i-preserved : goal.loop-i-preserved
 loop-i-preserved g c =
     let i = c.loop-i.invariant in
-    let m = c.in-ok-n.ensures in (
+    let m = c.in_ok-n.ensures in (
       goes_on i.0 m.grew,
       wrap_on _ _ _ _ _ _ _ _ c.loop-i-test.true i.1 _ (says_at i.0.limits m.says),
     )
 
-pub returns-in-err-n : goal.returns-in-err-n
-returns-in-err-n g c =
+pub returns-in_err-n : goal.returns-in_err-n
+returns-in_err-n g c =
     let i = c.loop-i.invariant in
-    let p = err_from_is_err_and c.from-residual.result c.from-residual.ensures.1 in
-    let m = c.in-err-n.ensures in
+    let p = err_from_is_err_and c.from_residual.result c.from_residual.ensures.1 in
+    let m = c.in_err-n.ensures in
     record {
       grew = goes_on i.0 m.grew;
       wraps = wrap_stopped _ _ _ _ _ _ _ _ c.loop-i-test.true i.1 _ _ _ (says_at i.0.limits m.says) (p.1 ∙ ap Err p.2);

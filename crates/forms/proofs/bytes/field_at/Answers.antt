@@ -3,6 +3,6 @@ use Rattle.forms.proofs.bytes.field_at.Goals as goal
 
 pub returns-else-at-eq0 : goal.returns-else-at-eq0
 returns-else-at-eq0 c = record {
-  same = c.field-row.ensures.same;
-  field = field_by c.args.sheet.now c.args.at c.field-row.result c.if-at-eq0.false c.field-row.ensures.row;
+  same = c.field_row.ensures.same;
+  field = field_by c.args.sheet.now c.args.at c.field_row.result c.if-at-eq0.false c.field_row.ensures.row;
 }

@@ -13,9 +13,9 @@ returns-then-left-length c =
     let e = c.in-Some.ensures.same ∙ i.0 in
     let x = c.in-Some.row in
     let f : FieldHere s c.loop-row.at x = subst (λ (z : Sheet). FieldHere z c.loop-row.at x) i.0 c.in-Some.ensures.field in
-    let n = length_as s c.field-at.new.sheet e x.field c.length-of-length.result c.length-of-length.ensures.long in
+    let n = length_as s c.field_at.new.sheet e x.field c.length_of-length.result c.length_of-length.ensures.long in
     record {
-      same = c.length-of-length.ensures.same ∙ e;
+      same = c.length_of-length.ensures.same ∙ e;
       leads = field_in (book_in s) (fields_from s c.args.first) (fields_from s c.loop-row.at) c.args.p c.loop-row.left x.field (fields_from s x.next) i.1 i.2 f.fields (omega (arith, n));
     }
 
@@ -26,8 +26,8 @@ loop-row-preserved c =
     let e = c.in-Some.ensures.same ∙ i.0 in
     let x = c.in-Some.row in
     let f : FieldHere s c.loop-row.at x = subst (λ (z : Sheet). FieldHere z c.loop-row.at x) i.0 c.in-Some.ensures.field in
-    let n = length_as s c.field-at.new.sheet e x.field c.length-of-length.result c.length-of-length.ensures.long in (
-      c.length-of-length.ensures.same ∙ e,
-      field_on (book_in s) (fields_from s c.args.first) (fields_from s c.loop-row.at) c.args.p c.loop-row.left x.field (fields_from s x.next) i.1 i.2 f.fields c.length-of-length.result n c.if-left-length.false,
+    let n = length_as s c.field_at.new.sheet e x.field c.length_of-length.result c.length_of-length.ensures.long in (
+      c.length_of-length.ensures.same ∙ e,
+      field_on (book_in s) (fields_from s c.args.first) (fields_from s c.loop-row.at) c.args.p c.loop-row.left x.field (fields_from s x.next) i.1 i.2 f.fields c.length_of-length.result n c.if-left-length.false,
       λ m h. among_rest (book_in s) (fields_from s c.args.first) (fields_from s c.loop-row.at) c.args.p c.loop-row.left x.field (fields_from s x.next) i.1 i.2 f.fields m (inr h),
     )

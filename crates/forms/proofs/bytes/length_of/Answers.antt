@@ -5,7 +5,7 @@ use Rattle.forms.proofs.bytes.length_of.Goals as goal
 
 pub returns-in-Some : goal.returns-in-Some
 returns-in-Some c = record {
-  same = c.type-row.ensures.same;
+  same = c.type_row.ensures.same;
   long = row_long c.args.sheet.now c.args.n c.if-n-lt15.false c.in-Some.row c.in-Some.ensures.row;
 }
 
@@ -13,6 +13,6 @@ pub returns-in-None : goal.returns-in-None
 returns-in-None c =
     let s = c.args.sheet.now in
     record {
-      same = c.type-row.ensures.same;
+      same = c.type_row.ensures.same;
       long = sym (ap length (no_text (book_in s) c.args.n (omega (arith, c.in-None.ensures.row, book_long s))));
     }

@@ -6,36 +6,36 @@ use Rattle.forms.proofs.bytes.pair_step.Goals as goal
 
 pub returns-then-p-first : goal.returns-then-p-first
 returns-then-p-first c = record {
-  same = c.length-of-first.ensures.same;
-  leads = pair_key (book_in c.args.sheet.now) c.args.key c.args.value c.args.p c.length-of-first.result c.length-of-first.ensures.long c.if-p-first.true;
+  same = c.length_of-first.ensures.same;
+  leads = pair_key (book_in c.args.sheet.now) c.args.key c.args.value c.args.p c.length_of-first.result c.length_of-first.ensures.long c.if-p-first.true;
 }
 
 pub returns-then-p-first-2 : goal.returns-then-p-first-2
 returns-then-p-first-2 c =
-    let e = c.length-of-first.ensures.same in
+    let e = c.length_of-first.ensures.same in
     record {
-      same = c.length-of-second.ensures.same ∙ e;
+      same = c.length_of-second.ensures.same ∙ e;
       leads =
-          pair_value (book_in c.args.sheet.now) c.args.key c.args.value c.args.p c.length-of-first.result c.length-of-first.ensures.long c.if-p-first.false
-          c.length-of-second.result (length_as c.args.sheet.now c.length-of-first.new.sheet e c.args.value c.length-of-second.result c.length-of-second.ensures.long) c.if-p-first-2.true;
+          pair_value (book_in c.args.sheet.now) c.args.key c.args.value c.args.p c.length_of-first.result c.length_of-first.ensures.long c.if-p-first.false
+          c.length_of-second.result (length_as c.args.sheet.now c.length_of-first.new.sheet e c.args.value c.length_of-second.result c.length_of-second.ensures.long) c.if-p-first-2.true;
     }
 
 pub returns-then-p-first-3 : goal.returns-then-p-first-3
 returns-then-p-first-3 c =
-    let e = c.length-of-first.ensures.same in
+    let e = c.length_of-first.ensures.same in
     record {
-      same = c.length-of-second.ensures.same ∙ e;
+      same = c.length_of-second.ensures.same ∙ e;
       leads =
-          pair_last (book_in c.args.sheet.now) c.args.key c.args.value c.args.p c.length-of-first.result c.length-of-first.ensures.long c.if-p-first.false
-          c.length-of-second.result (length_as c.args.sheet.now c.length-of-first.new.sheet e c.args.value c.length-of-second.result c.length-of-second.ensures.long) c.if-p-first-3.true;
+          pair_last (book_in c.args.sheet.now) c.args.key c.args.value c.args.p c.length_of-first.result c.length_of-first.ensures.long c.if-p-first.false
+          c.length_of-second.result (length_as c.args.sheet.now c.length_of-first.new.sheet e c.args.value c.length_of-second.result c.length_of-second.ensures.long) c.if-p-first-3.true;
     }
 
 pub returns-else-p-first-3 : goal.returns-else-p-first-3
 returns-else-p-first-3 c =
-    let e = c.length-of-first.ensures.same in
+    let e = c.length_of-first.ensures.same in
     record {
-      same = c.length-of-second.ensures.same ∙ e;
+      same = c.length_of-second.ensures.same ∙ e;
       leads =
-          pair_none (book_in c.args.sheet.now) c.args.key c.args.value c.args.p c.length-of-first.result c.length-of-first.ensures.long c.if-p-first.false
-          c.length-of-second.result (length_as c.args.sheet.now c.length-of-first.new.sheet e c.args.value c.length-of-second.result c.length-of-second.ensures.long) c.if-p-first-2.false c.if-p-first-3.false;
+          pair_none (book_in c.args.sheet.now) c.args.key c.args.value c.args.p c.length_of-first.result c.length_of-first.ensures.long c.if-p-first.false
+          c.length_of-second.result (length_as c.args.sheet.now c.length_of-first.new.sheet e c.args.value c.length_of-second.result c.length_of-second.ensures.long) c.if-p-first-2.false c.if-p-first-3.false;
     }

@@ -12,7 +12,7 @@ returns-then-n-lt15 c =
 
 pub returns-in-Some : goal.returns-in-Some
 returns-in-Some c = record {
-  same = c.type-row.ensures.same;
+  same = c.type_row.ensures.same;
   paired = row_paired c.args.sheet.now c.args.n c.if-n-lt15.false c.in-Some.row c.in-Some.ensures.row;
 }
 
@@ -20,6 +20,6 @@ pub returns-in-None : goal.returns-in-None
 returns-in-None c =
     let s = c.args.sheet.now in
     record {
-      same = c.type-row.ensures.same;
+      same = c.type_row.ensures.same;
       paired = bare_short (text_of (book_in s) c.args.n) (omega (arith, ap length (no_text (book_in s) c.args.n (omega (arith, book_long s, c.in-None.ensures.row)))));
     }

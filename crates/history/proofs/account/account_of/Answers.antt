@@ -6,12 +6,12 @@ use Rattle.forms.specs.Forms.{book_in}
 use Rattle.history.proofs.Asking.{account_unknown, account_refused, account_known}
 use Rattle.history.proofs.account.account_of.Goals as goal
 
-pub returns-in-err-figures : goal.returns-in-err-figures
-returns-in-err-figures g c =
+pub returns-in_err-figures : goal.returns-in_err-figures
+returns-in_err-figures g c =
     let s = c.args.sheet.now in
     let v = c.args.w.now in
-    let p = err_from_is_err_and c.from-residual.result c.from-residual.ensures.1 in
-    let q = c.in-err-figures.ensures in
+    let p = err_from_is_err_and c.from_residual.result c.from_residual.ensures.1 in
+    let q = c.in_err-figures.ensures in
     rw (p.1, p.2) (record {
       same = q.same;
       accounted = record {
@@ -24,17 +24,17 @@ returns-in-err-figures g c =
       still = refl;
     })
 
-pub returns-in-err-printed : goal.returns-in-err-printed
-returns-in-err-printed g c =
+pub returns-in_err-printed : goal.returns-in_err-printed
+returns-in_err-printed g c =
     let s = c.args.sheet.now in
     let v = c.args.w.now in
-    let p = err_from_is_err_and c.from-residual-in-err-printed.result c.from-residual-in-err-printed.ensures.1 in
-    let q = c.in-err-printed.ensures in
-    let e = c.figures-of.ensures.same in
+    let p = err_from_is_err_and c.from_residual-in_err-printed.result c.from_residual-in_err-printed.ensures.1 in
+    let q = c.in_err-printed.ensures in
+    let e = c.figures_of.ensures.same in
     rw (p.1, p.2) (record {
       same = q.same ∙ e;
       accounted = record {
-        answer = account_refused s c.args.n (g.W.Writer.rule v) (g.W.Writer.taken v) c.figures-of.new.sheet e _ _ q.answer;
+        answer = account_refused s c.args.n (g.W.Writer.rule v) (g.W.Writer.taken v) c.figures_of.new.sheet e _ _ q.answer;
         taken = q.taken;
         rest = q.rest;
         rule = q.rule;
@@ -47,13 +47,13 @@ pub returns : goal.returns
 returns g c =
     let s = c.args.sheet.now in
     let v = c.args.w.now in
-    let q = c.in-ok-printed.ensures in
-    let e = c.figures-of.ensures.same in
+    let q = c.in_ok-printed.ensures in
+    let e = c.figures_of.ensures.same in
     record {
       same = q.same ∙ e;
       accounted = record {
-        answer = account_known s c.args.n (g.W.Writer.rule v) (g.W.Writer.taken v) c.figures-of.new.sheet e _ _ c.in-ok-figures.ensures.answer q.answer;
-        taken = q.taken ∙ ap (λ (z : Sheet). g.W.Writer.taken c.args.w.now ++ take c.in-ok-printed.printed.taken (text_of (book_in z) c.args.n)) e;
+        answer = account_known s c.args.n (g.W.Writer.rule v) (g.W.Writer.taken v) c.figures_of.new.sheet e _ _ c.in_ok-figures.ensures.answer q.answer;
+        taken = q.taken ∙ ap (λ (z : Sheet). g.W.Writer.taken c.args.w.now ++ take c.in_ok-printed.printed.taken (text_of (book_in z) c.args.n)) e;
         rest = q.rest;
         rule = q.rule;
         site = q.site;

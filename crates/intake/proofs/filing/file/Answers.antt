@@ -10,45 +10,45 @@ use Rattle.forms.specs.Forms.{book_in}
 use Rattle.intake.proofs.Forming.{known_after, known_as, figures_are, never_unknown, text_long, book_shown, called_as}
 use Rattle.intake.proofs.filing.file.Goals as goal
 
-pub returns-in-err-number : goal.returns-in-err-number
-returns-in-err-number c =
-    let p = err_from_is_err_and c.from-residual.result c.from-residual.ensures.1 in
-    rw (p.1, p.2) (record { called = c.in-err-number.ensures; told = tt })
+pub returns-in_err-number : goal.returns-in_err-number
+returns-in_err-number c =
+    let p = err_from_is_err_and c.from_residual.result c.from_residual.ensures.1 in
+    rw (p.1, p.2) (record { called = c.in_err-number.ensures; told = tt })
 
-pub returns-in-err-figures : goal.returns-in-err-figures
-returns-in-err-figures c =
+pub returns-in_err-figures : goal.returns-in_err-figures
+returns-in_err-figures c =
     let s = c.args.sheet.now in
-    let k = known_after s c.from-bytes.new.self _ _ c.in-ok-number.ensures in
-    absurd (never_unknown c.from-bytes.new.self _ k _ _ c.in-err-figures.ensures.answer)
+    let k = known_after s c.from_bytes.new.self _ _ c.in_ok-number.ensures in
+    absurd (never_unknown c.from_bytes.new.self _ k _ _ c.in_err-figures.ensures.answer)
 
-pub form-of-form-requires : goal.form-of-form-requires
-form-of-form-requires c =
+pub form_of-form-requires : goal.form_of-form-requires
+form_of-form-requires c =
     let s = c.args.sheet.now in
-    let s₁ = c.from-bytes.new.self in
-    let s₂ = c.figures-of.new.sheet in
-    let n = c.in-ok-number.number in
-    let e = c.figures-of.ensures.same in
-    let k = known_after s s₁ n _ c.in-ok-number.ensures in
-    let f = figures_are s₁ n c.in-ok-figures.figures k c.in-ok-figures.ensures.answer in
+    let s₁ = c.from_bytes.new.self in
+    let s₂ = c.figures_of.new.sheet in
+    let n = c.in_ok-number.number in
+    let e = c.figures_of.ensures.same in
+    let k = known_after s s₁ n _ c.in_ok-number.ensures in
+    let f = figures_are s₁ n c.in_ok-figures.figures k c.in_ok-figures.ensures.answer in
     record {
       known = known_as s₁ s₂ n e k;
-      size = ap (λ (x : Figures). x.length) f ∙ text_long s₁ n k ∙ sym (ap (λ (z : Sheet). length (text_of (book_in z) c.in-ok-number.number)) e);
+      size = ap (λ (x : Figures). x.length) f ∙ text_long s₁ n k ∙ sym (ap (λ (z : Sheet). length (text_of (book_in z) c.in_ok-number.number)) e);
     }
 
 pub returns : goal.returns
 returns c =
     let s = c.args.sheet.now in
-    let s₁ = c.from-bytes.new.self in
-    let s₂ = c.figures-of.new.sheet in
-    let s₃ = c.form-of-form.new.sheet in
-    let n = c.in-ok-number.number in
-    let e = c.form-of-form.ensures.same ∙ c.figures-of.ensures.same in
-    let k = known_after s s₁ n _ c.in-ok-number.ensures in
-    let f = figures_are s₁ n c.in-ok-figures.figures k c.in-ok-figures.ensures.answer in
+    let s₁ = c.from_bytes.new.self in
+    let s₂ = c.figures_of.new.sheet in
+    let s₃ = c.form_of-form.new.sheet in
+    let n = c.in_ok-number.number in
+    let e = c.form_of-form.ensures.same ∙ c.figures_of.ensures.same in
+    let k = known_after s s₁ n _ c.in_ok-number.ensures in
+    let f = figures_are s₁ n c.in_ok-figures.figures k c.in_ok-figures.ensures.answer in
     record {
-      called = called_as s s₁ s₃ _ _ e c.in-ok-number.ensures;
+      called = called_as s s₁ s₃ _ _ e c.in_ok-number.ensures;
       told = record {
         figures = f ∙ book_shown (λ z. text_figures (text_of z n)) s₁ s₃ e;
-        form = c.form-of-form.ensures.form ∙ book_shown (λ z. text_of z n) s₂ s₃ c.form-of-form.ensures.same;
+        form = c.form_of-form.ensures.form ∙ book_shown (λ z. text_of z n) s₂ s₃ c.form_of-form.ensures.same;
       };
     }

@@ -16,7 +16,7 @@ returns-in-Ok c =
     let s = c.args.sheet.now in
     let w = text_of (book_in s) c.args.n in
     let e = count_is (book_in s) c.args.n w _ c.requires.known (omega arith) c.in-Ok.count c.in-Ok.ensures.answer in
-    record { same = c.to-string.ensures.same; form = front w _ _ c.in-Ok.count e c.in-Ok.ensures.after }
+    record { same = c.to_string.ensures.same; form = front w _ _ c.in-Ok.count e c.in-Ok.ensures.after }
 
 pub returns-in-Err : goal.returns-in-Err
 returns-in-Err c =

@@ -13,11 +13,11 @@ last : (w : List ℕ) (i : ℕ) → length w ≤ i → line_length (drop i w) �
 last w i h = rw (drop_of_length-le w h)
 
 pub loop-i-preserved : goal.loop-i-preserved
-loop-i-preserved c = omega (arith, c.loop-i.invariant, goes_on c.args.text.now c.loop-i.i c.loop-i-test.true c.if-b-eq-LINE-END.false)
+loop-i-preserved c = omega (arith, c.loop-i.invariant, goes_on c.args.text.now c.loop-i.i c.loop-i-test.true c.if-b-eq-LINE_END.false)
 
-pub returns-then-b-eq-LINE-END : goal.returns-then-b-eq-LINE-END
-returns-then-b-eq-LINE-END c = record {
-  first = omega (arith, c.loop-i.invariant, ends c.args.text.now c.loop-i.i c.loop-i-test.true c.if-b-eq-LINE-END.true);
+pub returns-then-b-eq-LINE_END : goal.returns-then-b-eq-LINE_END
+returns-then-b-eq-LINE_END c = record {
+  first = omega (arith, c.loop-i.invariant, ends c.args.text.now c.loop-i.i c.loop-i-test.true c.if-b-eq-LINE_END.true);
   within = omega (arith, c.loop-i-test.true);
 }
 

@@ -6,8 +6,8 @@ use Rattle.printing.proofs.comparison.is_span.Goals as goal
 
 pub returns-then-printed : goal.returns-then-printed
 returns-then-printed c =
-    let o = c.offer-span-printed.ensures in
-    let r = c.offer-span-printed.result in
+    let o = c.offer_span-printed.ensures in
+    let r = c.offer_span-printed.result in
     record {
       same = o.same;
       equal = same_if c.args.text.now c.new-w.result.text.now (bytes_in c.args.span (text_of (book_in c.args.sheet.now) c.args.n)) c.new-w.result.count r.taken r.all _
@@ -16,8 +16,8 @@ returns-then-printed c =
 
 pub returns-else-printed : goal.returns-else-printed
 returns-else-printed c =
-    let o = c.offer-span-printed.ensures in
-    let r = c.offer-span-printed.result in
+    let o = c.offer_span-printed.ensures in
+    let r = c.offer_span-printed.result in
     record {
       same = o.same;
       equal = other_if c.args.text.now c.new-w.result.text.now (bytes_in c.args.span (text_of (book_in c.args.sheet.now) c.args.n)) c.new-w.result.count r.taken r.all _

@@ -9,14 +9,14 @@ use Rattle.forms.proofs.Texts.{bytes_as}
 use Rattle.printing.proofs.Asked.{none_filled, into_known, into_unknown, after_as}
 use Rattle.printing.proofs.printing.to_string.Goals as goal
 
-pub returns-in-err-span : goal.returns-in-err-span
-returns-in-err-span c =
+pub returns-in_err-span : goal.returns-in_err-span
+returns-in_err-span c =
     let b = book_in c.args.sheet.now in
     let w = text_of (book_in c.args.sheet.now) c.args.n in
-    let u = c.in-err-span.ensures.covers in
-    let r = c.from-residual.result in
-    let p = err_from_is_err_and c.from-residual.result c.from-residual.ensures.1 in
-    let e : c.from-residual.result ≡ Err (Unknown 0) = p.1 ∙ ap Err (p.2 ∙ u.refusal) in
+    let u = c.in_err-span.ensures.covers in
+    let r = c.from_residual.result in
+    let p = err_from_is_err_and c.from_residual.result c.from_residual.ensures.1 in
+    let e : c.from_residual.result ≡ Err (Unknown 0) = p.1 ∙ ap Err (p.2 ∙ u.refusal) in
     record {
       same = c.whole.ensures.same;
       answer = into_unknown b c.args.n w (length c.args.buffer.now) r e u.unknown;
@@ -29,9 +29,9 @@ returns c =
     let b = book_in c.args.sheet.now in
     let w = text_of (book_in c.args.sheet.now) c.args.n in
     let e = c.whole.ensures.same in
-    let u = c.in-ok-span.ensures.covers in
+    let u = c.in_ok-span.ensures.covers in
     let o = c.fill.ensures in
-    let x = c.in-ok-span.span in
+    let x = c.in_ok-span.span in
     let bs = bytes_in x (text_of (book_in c.whole.new.sheet) c.args.n) in
     let f = bytes_as s c.whole.new.sheet e c.args.n x w u.bytes in
     record {

@@ -8,15 +8,15 @@ use Rattle.forms.proofs.Texts.{bytes_as}
 use Rattle.printing.proofs.Asked.{none_taken, none_dropped, on_refusal, contents, written_known, written_unknown}
 use Rattle.printing.proofs.printing.write_as_string.Goals as goal
 
-pub returns-in-err-span : goal.returns-in-err-span
-returns-in-err-span g c =
+pub returns-in_err-span : goal.returns-in_err-span
+returns-in_err-span g c =
     let b = book_in c.args.sheet.now in
     let v = c.args.w.now in
     let w = text_of (book_in c.args.sheet.now) c.args.n in
-    let u = c.in-err-span.ensures.covers in
-    let r = c.from-residual.result in
-    let p = err_from_is_err_and c.from-residual.result c.from-residual.ensures.1 in
-    let e : c.from-residual.result ≡ Err (Unknown 0) = p.1 ∙ ap Err (p.2 ∙ u.refusal) in
+    let u = c.in_err-span.ensures.covers in
+    let r = c.from_residual.result in
+    let p = err_from_is_err_and c.from_residual.result c.from_residual.ensures.1 in
+    let e : c.from_residual.result ≡ Err (Unknown 0) = p.1 ∙ ap Err (p.2 ∙ u.refusal) in
     record {
       same = c.whole.ensures.same;
       answer = written_unknown (g.W.Writer.rule v) (g.W.Writer.taken v) w b c.args.n r e u.unknown;
@@ -34,15 +34,15 @@ returns g c =
     let v = c.args.w.now in
     let w = text_of (book_in c.args.sheet.now) c.args.n in
     let e = c.whole.ensures.same in
-    let u = c.in-ok-span.ensures.covers in
-    let o = c.offer-span.ensures in
-    let x = c.in-ok-span.span in
+    let u = c.in_ok-span.ensures.covers in
+    let o = c.offer_span.ensures in
+    let x = c.in_ok-span.span in
     let bs = bytes_in x (text_of (book_in c.whole.new.sheet) c.args.n) in
     let f = bytes_as s c.whole.new.sheet e c.args.n x w u.bytes in
     record {
       same = o.same ∙ e;
-      answer = written_known (g.W.Writer.rule v) (g.W.Writer.taken v) w bs c.offer-span.result (g.W.Writer.taken c.offer-span.new.w) f o.wrote b c.args.n u.known;
-      taken = contents (g.W.Writer.rule v) (g.W.Writer.taken v) w bs c.offer-span.result (g.W.Writer.taken c.offer-span.new.w) f o.wrote;
+      answer = written_known (g.W.Writer.rule v) (g.W.Writer.taken v) w bs c.offer_span.result (g.W.Writer.taken c.offer_span.new.w) f o.wrote b c.args.n u.known;
+      taken = contents (g.W.Writer.rule v) (g.W.Writer.taken v) w bs c.offer_span.result (g.W.Writer.taken c.offer_span.new.w) f o.wrote;
       rule = o.rule;
       rest = o.rest;
       site = o.site;

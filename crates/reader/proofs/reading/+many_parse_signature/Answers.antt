@@ -9,121 +9,121 @@ pub many-loop-cursor-preserved : goal.many-loop-cursor-preserved
 many-loop-cursor-preserved t c =
     let i = c.loop-cursor.invariant in
     let n = c.loop-cursor-test.ensures.eaten in (
-      c.parse-signature-in-loop-cursor.ensures.text ∙ c.eat.ensures.text ∙ i.0,
-      then_passed (join i.1 (others_one _ _ _ _ _ (stayed_in i.0 n))) (passed_at (c.eat.ensures.text ∙ i.0) n.same c.in-ok-parse-signature-2.ensures.read),
+      c.parse_signature-in-loop-cursor.ensures.text ∙ c.eat.ensures.text ∙ i.0,
+      then_passed (join i.1 (others_one _ _ _ _ _ (stayed_in i.0 n))) (passed_at (c.eat.ensures.text ∙ i.0) n.same c.in_ok-parse_signature-2.ensures.read),
     )
 
-pub many-returns-in-err-parse-signature-2 : goal.many-returns-in-err-parse-signature-2
-many-returns-in-err-parse-signature-2 t c =
+pub many-returns-in_err-parse_signature-2 : goal.many-returns-in_err-parse_signature-2
+many-returns-in_err-parse_signature-2 t c =
     let i = c.loop-cursor.invariant in
     let n = c.loop-cursor-test.ensures.eaten in
-    let e = c.parse-signature.ensures.text in
-    let r = c.from-residual-in-err-parse-signature-2 in
+    let e = c.parse_signature.ensures.text in
+    let r = c.from_residual-in_err-parse_signature-2 in
     let p = err_from_is_err_and r.result r.ensures.1 in
     record {
-      text = c.parse-signature-in-loop-cursor.ensures.text ∙ c.eat.ensures.text ∙ i.0 ∙ e;
+      text = c.parse_signature-in-loop-cursor.ensures.text ∙ c.eat.ensures.text ∙ i.0 ∙ e;
       read = broken _ _ _ _ _ _ _ p.1 p.2 (then_failed
-          (join (then_passed (here _ _ _) c.in-ok-parse-signature.ensures.read) (join (entered_in e i.1) (others_one _ _ _ _ _ (stayed_in (i.0 ∙ e) n))))
-          (failed_at (c.eat.ensures.text ∙ i.0 ∙ e) n.same c.in-err-parse-signature-2.ensures.read));
+          (join (then_passed (here _ _ _) c.in_ok-parse_signature.ensures.read) (join (entered_in e i.1) (others_one _ _ _ _ _ (stayed_in (i.0 ∙ e) n))))
+          (failed_at (c.eat.ensures.text ∙ i.0 ∙ e) n.same c.in_err-parse_signature-2.ensures.read));
     }
 
 pub many-returns : goal.many-returns
 many-returns t c =
     let i = c.loop-cursor.invariant in
     let n = c.loop-cursor-test.ensures.eaten in
-    let e = c.parse-signature.ensures.text in
+    let e = c.parse_signature.ensures.text in
     record {
       text = c.eat.ensures.text ∙ i.0 ∙ e;
-      read = then_last (join (then_passed (here _ _ _) c.in-ok-parse-signature.ensures.read) (entered_in e i.1)) (others_end _ _ _ _ _ (ate_in (i.0 ∙ e) n));
+      read = then_last (join (then_passed (here _ _ _) c.in_ok-parse_signature.ensures.read) (entered_in e i.1)) (others_end _ _ _ _ _ (ate_in (i.0 ∙ e) n));
     }
 
-pub parse_signature_returns_in_Break_parse_signature :
-    goal.parse-signature-returns-in-err-parse-signature
-parse_signature_returns_in_Break_parse_signature t c =
+pub parse_signature-returns-in_err-parse_signature-in-97 :
+    goal.parse_signature-returns-in_err-parse_signature-in-97
+parse_signature-returns-in_err-parse_signature-in-97 t c =
     let t1 = c.take.ensures.text ∙ c.loop-b.invariant.0 in
-    let r = c.from-residual in
+    let r = c.from_residual in
     let p = err_from_is_err_and r.result r.ensures.1 in
     record {
-      text = c.parse-signature.ensures.text ∙ c.eat.ensures.text ∙ t1;
+      text = c.parse_signature.ensures.text ∙ c.eat.ensures.text ∙ t1;
       read = broken _ _ _ _ _ _ _ p.1 p.2 (then_failed
           (type_pair _ _ _ _ _ _ (opened _ _ _ _ _ c.loop-b.invariant.1 c.loop-b.invariant.2 (byte_in _ _ _ c.loop-b.invariant.0 c.in-Some.ensures.byte) c.if-b-ne109.true) c.in-97.is c.if-arrays-gt0.true _ (ate_in t1 c.if-eat.ensures.eaten))
-          (failed_in (c.eat.ensures.text ∙ t1) c.in-err-parse-signature.ensures.read));
+          (failed_in (c.eat.ensures.text ∙ t1) c.in_err-parse_signature-in-97.ensures.read));
     }
 
-pub parse_signature_returns_in_Break_parse_signature_2 :
-    goal.parse-signature-returns-in-err-parse-signature-2
-parse_signature_returns_in_Break_parse_signature_2 t c =
+pub parse_signature-returns-in_err-parse_signature-in-97-2 :
+    goal.parse_signature-returns-in_err-parse_signature-in-97-2
+parse_signature-returns-in_err-parse_signature-in-97-2 t c =
     let t1 = c.take.ensures.text ∙ c.loop-b.invariant.0 in
-    let r = c.from-residual-in-err-parse-signature-2 in
+    let r = c.from_residual-in_err-parse_signature-in-97-2 in
     let p = err_from_is_err_and r.result r.ensures.1 in
     record {
-      text = c.parse-signature-then-eat.ensures.text ∙ c.parse-signature.ensures.text ∙ c.eat.ensures.text ∙ t1;
+      text = c.parse_signature-then-eat.ensures.text ∙ c.parse_signature.ensures.text ∙ c.eat.ensures.text ∙ t1;
       read = broken _ _ _ _ _ _ _ p.1 p.2 (then_failed (then_passed
           (type_pair _ _ _ _ _ _ (opened _ _ _ _ _ c.loop-b.invariant.1 c.loop-b.invariant.2 (byte_in _ _ _ c.loop-b.invariant.0 c.in-Some.ensures.byte) c.if-b-ne109.true) c.in-97.is c.if-arrays-gt0.true _ (ate_in t1 c.if-eat.ensures.eaten))
-          (passed_in (c.eat.ensures.text ∙ t1) c.in-ok-parse-signature.ensures.read))
-          (failed_in (c.parse-signature.ensures.text ∙ c.eat.ensures.text ∙ t1) c.in-err-parse-signature-2.ensures.read));
+          (passed_in (c.eat.ensures.text ∙ t1) c.in_ok-parse_signature-in-97.ensures.read))
+          (failed_in (c.parse_signature.ensures.text ∙ c.eat.ensures.text ∙ t1) c.in_err-parse_signature-in-97-2.ensures.read));
     }
 
-pub parse_signature_returns_in_Continue_parse_signature_2 :
-    goal.parse-signature-returns-in-ok-parse-signature-2
-parse_signature_returns_in_Continue_parse_signature_2 t c =
+pub parse_signature-returns-in_ok-parse_signature-in-97-2 :
+    goal.parse_signature-returns-in_ok-parse_signature-in-97-2
+parse_signature-returns-in_ok-parse_signature-in-97-2 t c =
     let t1 = c.take.ensures.text ∙ c.loop-b.invariant.0 in
     record {
-      text = c.end.ensures.same ∙ c.parse-signature-then-eat.ensures.text ∙ c.parse-signature.ensures.text ∙ c.eat.ensures.text ∙ t1;
+      text = c.end.ensures.same ∙ c.parse_signature-then-eat.ensures.text ∙ c.parse_signature.ensures.text ∙ c.eat.ensures.text ∙ t1;
       read = then_parsed _ _ _ _ _ _ _ (then_passed (then_passed
           (type_pair _ _ _ _ _ _ (opened _ _ _ _ _ c.loop-b.invariant.1 c.loop-b.invariant.2 (byte_in _ _ _ c.loop-b.invariant.0 c.in-Some.ensures.byte) c.if-b-ne109.true) c.in-97.is c.if-arrays-gt0.true _ (ate_in t1 c.if-eat.ensures.eaten))
-          (passed_in (c.eat.ensures.text ∙ t1) c.in-ok-parse-signature.ensures.read))
-          (passed_in (c.parse-signature.ensures.text ∙ c.eat.ensures.text ∙ t1) c.in-ok-parse-signature-2.ensures.read))
-          (parsed_in _ _ _ _ _ _ (c.parse-signature-then-eat.ensures.text ∙ c.parse-signature.ensures.text ∙ c.eat.ensures.text ∙ t1) c.end.ensures.outcome);
+          (passed_in (c.eat.ensures.text ∙ t1) c.in_ok-parse_signature-in-97.ensures.read))
+          (passed_in (c.parse_signature.ensures.text ∙ c.eat.ensures.text ∙ t1) c.in_ok-parse_signature-in-97-2.ensures.read))
+          (parsed_in _ _ _ _ _ _ (c.parse_signature-then-eat.ensures.text ∙ c.parse_signature.ensures.text ∙ c.eat.ensures.text ∙ t1) c.end.ensures.outcome);
     }
 
-pub parse-signature-returns-else-eat : goal.parse-signature-returns-else-eat
-parse-signature-returns-else-eat t c =
+pub parse_signature-returns-else-eat : goal.parse_signature-returns-else-eat
+parse_signature-returns-else-eat t c =
     let t1 = c.take.ensures.text ∙ c.loop-b.invariant.0 in
     let n = c.if-eat.ensures.eaten in
     record {
-      text = c.parse-signature-else-eat.ensures.text ∙ c.eat.ensures.text ∙ t1;
+      text = c.parse_signature-else-eat.ensures.text ∙ c.eat.ensures.text ∙ t1;
       read = then_parsed _ _ _ _ _ _ _
           (type_element _ _ _ _ _ _ (opened _ _ _ _ _ c.loop-b.invariant.1 c.loop-b.invariant.2 (byte_in _ _ _ c.loop-b.invariant.0 c.in-Some.ensures.byte) c.if-b-ne109.true) c.in-97.is c.if-arrays-gt0.true _ (stayed_in t1 n))
-          (parsed_at _ _ _ _ _ _ _ (c.eat.ensures.text ∙ t1) n.same c.parse-signature-else-eat.ensures.read);
+          (parsed_at _ _ _ _ _ _ _ (c.eat.ensures.text ∙ t1) n.same c.parse_signature-else-eat.ensures.read);
     }
 
-pub parse-signature-returns-in-40 : goal.parse-signature-returns-in-40
-parse-signature-returns-in-40 t c =
+pub parse_signature-returns-in-40 : goal.parse_signature-returns-in-40
+parse_signature-returns-in-40 t c =
     let t1 = c.take.ensures.text ∙ c.loop-b.invariant.0 in
     record {
       text = c.many.ensures.text ∙ t1;
       read = then_parsed _ _ _ _ _ _ _ (type_structure _ _ _ _ c.args.structures c.args.arrays (opened _ _ _ _ _ c.loop-b.invariant.1 c.loop-b.invariant.2 (byte_in _ _ _ c.loop-b.invariant.0 c.in-Some.ensures.byte) c.if-b-ne109.true) c.in-40.is c.if-structures-gt0.true) (parsed_in _ _ _ _ _ _ t1 c.many.ensures.read);
     }
 
-pub parse-signature-returns-in-default-b : goal.parse-signature-returns-in-default-b
-parse-signature-returns-in-default-b t c =
-    record { text = c.take.ensures.text ∙ c.loop-b.invariant.0; read = type_basic _ _ _ _ _ _ (opened _ _ _ _ _ c.loop-b.invariant.1 c.loop-b.invariant.2 (byte_in _ _ _ c.loop-b.invariant.0 c.in-Some.ensures.byte) c.if-b-ne109.true) (sym c.if-is-basic.ensures) }
+pub parse_signature-returns-in_default-b : goal.parse_signature-returns-in_default-b
+parse_signature-returns-in_default-b t c =
+    record { text = c.take.ensures.text ∙ c.loop-b.invariant.0; read = type_basic _ _ _ _ _ _ (opened _ _ _ _ _ c.loop-b.invariant.1 c.loop-b.invariant.2 (byte_in _ _ _ c.loop-b.invariant.0 c.in-Some.ensures.byte) c.if-b-ne109.true) (sym c.if-is_basic.ensures) }
 
-pub parse-signature-returns-in-default-2 : goal.parse-signature-returns-in-default-2
-parse-signature-returns-in-default-2 t c =
-    record { text = c.take.ensures.text ∙ c.loop-b.invariant.0; read = rw c.behind-in-default-2.ensures (type_unexpected _ _ _ _ _ _ (opened _ _ _ _ _ c.loop-b.invariant.1 c.loop-b.invariant.2 (byte_in _ _ _ c.loop-b.invariant.0 c.in-Some.ensures.byte) c.if-b-ne109.true) (sym c.if-is-basic.ensures) (λ e. omega arith) (λ e. omega arith)) }
+pub parse_signature-returns-in_default-2 : goal.parse_signature-returns-in_default-2
+parse_signature-returns-in_default-2 t c =
+    record { text = c.take.ensures.text ∙ c.loop-b.invariant.0; read = rw c.behind-in_default-2.ensures (type_unexpected _ _ _ _ _ _ (opened _ _ _ _ _ c.loop-b.invariant.1 c.loop-b.invariant.2 (byte_in _ _ _ c.loop-b.invariant.0 c.in-Some.ensures.byte) c.if-b-ne109.true) (sym c.if-is_basic.ensures) (λ e. omega arith) (λ e. omega arith)) }
 
-pub parse-signature-returns-in-default : goal.parse-signature-returns-in-default
-parse-signature-returns-in-default t c =
+pub parse_signature-returns-in_default : goal.parse_signature-returns-in_default
+parse_signature-returns-in_default t c =
     let i = c.loop-b.invariant in
-    let e = ended _ _ _ (one c.args.structures c.args.arrays ∷ []) (run_one c.args.structures c.args.arrays) (c.in-default.ensures.byte.0 ∙ ap length i.0) c.in-default.ensures.byte.1 in
+    let e = ended _ _ _ (one c.args.structures c.args.arrays ∷ []) (run_one c.args.structures c.args.arrays) (c.in_default.ensures.byte.0 ∙ ap length i.0) c.in_default.ensures.byte.1 in
     record {
       text = c.take.ensures.text ∙ i.0;
       read = record { within = e.within; breaks = λ k. i.2 c.args.structures c.args.arrays k ∙ e.breaks k };
     }
 
-pub parse-signature-loop-b-preserved : goal.parse-signature-loop-b-preserved
-parse-signature-loop-b-preserved t c = (
+pub parse_signature-loop-b-preserved : goal.parse_signature-loop-b-preserved
+parse_signature-loop-b-preserved t c = (
   c.take.ensures.text ∙ c.loop-b.invariant.0,
   omega (arith, c.loop-b.invariant.1, c.in-Some.ensures.byte.1),
   λ s a k. c.loop-b.invariant.2 s a k ∙ behind_maybe _ _ _ _ (byte_in _ _ _ c.loop-b.invariant.0 c.in-Some.ensures.byte) c.if-b-ne109.false s a k,
 )
 
-pub parse-signature-returns-in-97-2 : goal.parse-signature-returns-in-97-2
-parse-signature-returns-in-97-2 t c =
+pub parse_signature-returns-in-97-2 : goal.parse_signature-returns-in-97-2
+parse_signature-returns-in-97-2 t c =
     record { text = c.take.ensures.text ∙ c.loop-b.invariant.0; read = rw c.behind.ensures (type_array_deep _ _ _ _ _ _ (opened _ _ _ _ _ c.loop-b.invariant.1 c.loop-b.invariant.2 (byte_in _ _ _ c.loop-b.invariant.0 c.in-Some.ensures.byte) c.if-b-ne109.true) c.in-97.is (omega (arith, c.if-arrays-gt0.false))) }
 
-pub parse-signature-returns-in-40-2 : goal.parse-signature-returns-in-40-2
-parse-signature-returns-in-40-2 t c =
+pub parse_signature-returns-in-40-2 : goal.parse_signature-returns-in-40-2
+parse_signature-returns-in-40-2 t c =
     record { text = c.take.ensures.text ∙ c.loop-b.invariant.0; read = rw c.behind-in-40-2.ensures (type_structure_deep _ _ _ _ _ _ (opened _ _ _ _ _ c.loop-b.invariant.1 c.loop-b.invariant.2 (byte_in _ _ _ c.loop-b.invariant.0 c.in-Some.ensures.byte) c.if-b-ne109.true) c.in-40.is (omega (arith, c.if-structures-gt0.false))) }

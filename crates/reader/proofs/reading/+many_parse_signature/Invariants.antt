@@ -6,8 +6,8 @@ use Rattle.reader.proofs.reading.+many_parse_signature.Given as goal
 abbrev pub decreases-many : goal.decreases-many
 decreases-many l = 2 * (length l.cursor.now.text.now - l.cursor.now.at) + 1
 
-abbrev pub decreases-parse-signature : goal.decreases-parse-signature
-decreases-parse-signature l = 2 * (length l.cursor.now.text.now - l.cursor.now.at)
+abbrev pub decreases-parse_signature : goal.decreases-parse_signature
+decreases-parse_signature l = 2 * (length l.cursor.now.text.now - l.cursor.now.at)
 
 abbrev pub invariant-many-loop-cursor : goal.invariant-many-loop-cursor
 invariant-many-loop-cursor l =
@@ -17,10 +17,10 @@ invariant-many-loop-cursor l =
 abbrev pub decreases-many-loop-cursor : goal.decreases-many-loop-cursor
 decreases-many-loop-cursor l = length l.cursor.text.now - l.cursor.at
 
-abbrev pub invariant-parse-signature-loop-b : goal.invariant-parse-signature-loop-b
-invariant-parse-signature-loop-b l =
+abbrev pub invariant-parse_signature-loop-b : goal.invariant-parse_signature-loop-b
+invariant-parse_signature-loop-b l =
     (l.cursor.text.now ≡ l.initial.cursor.text.now) × (l.initial.cursor.at ≤ l.cursor.at)
     × ((s a : ℕ) (k : List Frame) → run (one s a ∷ k) (drop l.initial.cursor.at l.initial.cursor.text.now) ≡ run (one s a ∷ k) (drop l.cursor.at l.initial.cursor.text.now))
 
-abbrev pub decreases-parse-signature-loop-b : goal.decreases-parse-signature-loop-b
-decreases-parse-signature-loop-b l = length l.cursor.text.now - l.cursor.at
+abbrev pub decreases-parse_signature-loop-b : goal.decreases-parse_signature-loop-b
+decreases-parse_signature-loop-b l = length l.cursor.text.now - l.cursor.at

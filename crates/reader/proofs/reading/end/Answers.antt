@@ -10,5 +10,5 @@ returns-then-b-eq125 c = record { same = c.take.ensures.text; outcome = end_pass
 pub returns-else-b-eq125 : goal.returns-else-b-eq125
 returns-else-b-eq125 c = record { same = c.take.ensures.text; outcome = rw c.behind.ensures (end_unexpected _ _ _ _ c.in-Some.ensures.byte c.if-b-eq125.false) }
 
-pub returns-in-default : goal.returns-in-default
-returns-in-default c = record { same = c.take.ensures.text; outcome = ended _ _ _ (close ∷ []) run_close c.in-default.ensures.byte.0 c.in-default.ensures.byte.1 }
+pub returns-in_default : goal.returns-in_default
+returns-in_default c = record { same = c.take.ensures.text; outcome = ended _ _ _ (close ∷ []) run_close c.in_default.ensures.byte.0 c.in_default.ensures.byte.1 }

@@ -13,18 +13,18 @@ loop-cursor-init c =
 pub loop-cursor-preserved : goal.loop-cursor-preserved
 loop-cursor-preserved c =
     let i = c.loop-cursor.invariant in
-    let p = passed_in i.0 c.in-ok-parse-signature.ensures.read in (
-      c.parse-signature.ensures.text ∙ i.0,
+    let p = passed_in i.0 c.in_ok-parse_signature.ensures.read in (
+      c.parse_signature.ensures.text ∙ i.0,
       i.1 ∙ top_passed _ _ _ _ _ c.loop-cursor-test.true p,
       omega (arith, i.2, p.forward),
       λ v. row_next _ _ _ _ _ c.loop-cursor-test.true p (i.3 v),
     )
 
-pub returns-in-err-parse-signature : goal.returns-in-err-parse-signature
-returns-in-err-parse-signature c =
+pub returns-in_err-parse_signature : goal.returns-in_err-parse_signature
+returns-in_err-parse_signature c =
     let i = c.loop-cursor.invariant in
-    let p = err_from_is_err_and c.from-residual.result c.from-residual.ensures.1 in
-    let f = failed_in i.0 c.in-err-parse-signature.ensures.read in
+    let p = err_from_is_err_and c.from_residual.result c.from_residual.ensures.1 in
+    let f = failed_in i.0 c.in_err-parse_signature.ensures.read in
     answered _ _ _ _ p.1 p.2 (is_fault _ _ _ f.within (i.1 ∙ top_failed _ _ _ _ _ c.loop-cursor-test.true f))
 
 pub returns : goal.returns

@@ -10,16 +10,16 @@ use Rattle.sheet.proofs.lay.file_structure.Goals as goal
 cap_was : (a b c : RowList FieldRow) → a.cap ≡ b.cap → b ≡ c → a.cap ≡ c.cap
 cap_was a b c p e = p ∙ ap (λ (x : RowList FieldRow). x.cap) e
 
-pub returns-in-Some-find-or-add : goal.returns-in-Some-find-or-add
-returns-in-Some-find-or-add c =
+pub returns-in-Some-find_or_add : goal.returns-in-Some-find_or_add
+returns-in-Some-find_or_add c =
     let t = c.args.types.now in
     let f = c.args.fields.now in
     let same = c.len-start.ensures.same in
     let d = laid_as _ f c.args.fs.now 0 _ _ _ same c.in-Some.ensures.laid in
     let e = cap_was c.lay.new.list c.len-start.new.self f c.lay.ensures.cap same in
     record {
-      made = made_filed t f c.lay.new.list c.args.fs.now c.args.figures c.in-Some.first c.requires.whole c.requires.structure e d c.find-or-add.new.self c.find-or-add.ensures.cap c.in-Some-find-or-add.i c.in-Some-find-or-add.ensures.place;
-      whole = whole_filed t f c.lay.new.list c.args.fs.now c.args.figures c.in-Some.first c.requires.whole c.requires.structure e d c.find-or-add.new.self c.find-or-add.ensures.cap c.in-Some-find-or-add.i c.in-Some-find-or-add.ensures.place;
+      made = made_filed t f c.lay.new.list c.args.fs.now c.args.figures c.in-Some.first c.requires.whole c.requires.structure e d c.find_or_add.new.self c.find_or_add.ensures.cap c.in-Some-find_or_add.i c.in-Some-find_or_add.ensures.place;
+      whole = whole_filed t f c.lay.new.list c.args.fs.now c.args.figures c.in-Some.first c.requires.whole c.requires.structure e d c.find_or_add.new.self c.find_or_add.ensures.cap c.in-Some-find_or_add.i c.in-Some-find_or_add.ensures.place;
     }
 
 pub returns-in-None : goal.returns-in-None
@@ -30,10 +30,10 @@ returns-in-None c =
     let same = c.len-start.ensures.same in
     let d = laid_as _ f c.args.fs.now 0 _ _ _ same c.in-Some.ensures.laid in
     let e = cap_was c.lay.new.list c.len-start.new.self f c.lay.ensures.cap same in
-    let m : c.len-start.result ≡ f.count = omega (arith, c.len-start.ensures.count, w.fields-within, w.fields_usable) in
+    let m : c.len-start.result ≡ f.count = omega (arith, c.len-start.ensures.count, w.fields_within, w.fields_usable) in
     let x = c.truncate.ensures in
     let cut : Cut blank_field c.len-start.result c.lay.new.list c.truncate.new.self = record { count = x.count; cap = x.cap; long = x.long; below = x.below; above = x.above; between = x.between } in
     record {
-      made = made_full t f c.lay.new.list c.args.fs.now c.args.figures c.in-Some.first w c.requires.structure e d c.find-or-add.new.self c.find-or-add.ensures.cap c.truncate.new.self _ m c.in-None.ensures.place cut;
-      whole = whole_full t f c.lay.new.list c.args.fs.now c.args.figures c.in-Some.first w c.requires.structure e d c.find-or-add.new.self c.find-or-add.ensures.cap c.truncate.new.self _ m c.in-None.ensures.place cut;
+      made = made_full t f c.lay.new.list c.args.fs.now c.args.figures c.in-Some.first w c.requires.structure e d c.find_or_add.new.self c.find_or_add.ensures.cap c.truncate.new.self _ m c.in-None.ensures.place cut;
+      whole = whole_full t f c.lay.new.list c.args.fs.now c.args.figures c.in-Some.first w c.requires.structure e d c.find_or_add.new.self c.find_or_add.ensures.cap c.truncate.new.self _ m c.in-None.ensures.place cut;
     }

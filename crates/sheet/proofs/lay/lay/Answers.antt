@@ -14,9 +14,9 @@ row fs i next = record { field = get_or fs (i - 1) 0; next = next; count = lengt
 pub loop-i-init : goal.loop-i-init
 loop-i-init c = (laid_start _ _ _ _ (ready_as _ _ c.len-start.ensures.same c.requires.ready), refl)
 
-added : (c : goal.In-Some) → Place field_key c.loop-i.list.rows.now c.loop-i.list.count c.len-start.new.self.cap (row c.args.fs.now c.loop-i.i c.loop-i.next) c.find-or-add.new.self.rows.now c.find-or-add.new.self.count c.in-Some.at
+added : (c : goal.In-Some) → Place field_key c.loop-i.list.rows.now c.loop-i.list.count c.len-start.new.self.cap (row c.args.fs.now c.loop-i.i c.loop-i.next) c.find_or_add.new.self.rows.now c.find_or_add.new.self.count c.in-Some.at
 added c =
-    subst (λ (u : ℕ). Place field_key c.loop-i.list.rows.now c.loop-i.list.count u (row c.args.fs.now c.loop-i.i c.loop-i.next) c.find-or-add.new.self.rows.now c.find-or-add.new.self.count c.in-Some.at)
+    subst (λ (u : ℕ). Place field_key c.loop-i.list.rows.now c.loop-i.list.count u (row c.args.fs.now c.loop-i.i c.loop-i.next) c.find_or_add.new.self.rows.now c.find_or_add.new.self.count c.in-Some.at)
     c.loop-i.invariant.1 c.in-Some.ensures.place
 
 small : (c : goal.In-Some) → c.in-Some.at + 1 ≤ 65535
@@ -31,7 +31,7 @@ overflow-add-next c = let h = small c in omega arith
 pub loop-i-preserved : goal.loop-i-preserved
 loop-i-preserved c =
     let g = c.loop-i.invariant.0 in
-    (laid_step _ _ _ _ c.loop-i.i (c.loop-i.i - 1) _ _ _ _ _ _ _ g (omega arith) (omega arith) refl (added c), c.find-or-add.ensures.cap ∙ c.loop-i.invariant.1)
+    (laid_step _ _ _ _ c.loop-i.i (c.loop-i.i - 1) _ _ _ _ _ _ _ g (omega arith) (omega arith) refl (added c), c.find_or_add.ensures.cap ∙ c.loop-i.invariant.1)
 
 pub returns-in-None : goal.returns-in-None
 returns-in-None c =
@@ -40,10 +40,10 @@ returns-in-None c =
     let r = ready_as _ _ e c.requires.ready in
     let m : c.len-start.result ≡ c.len-start.new.self.count = omega (arith, c.len-start.ensures.count, r.within, r.usable, ap (λ (x : RowList FieldRow). x.count) e, ap (λ (x : RowList FieldRow). length x.rows.now) e) in
     record {
-      cap = c.truncate.ensures.cap ∙ c.find-or-add.ensures.cap ∙ c.loop-i.invariant.1 ∙ ap (λ (x : RowList FieldRow). x.cap) e;
+      cap = c.truncate.ensures.cap ∙ c.find_or_add.ensures.cap ∙ c.loop-i.invariant.1 ∙ ap (λ (x : RowList FieldRow). x.cap) e;
       laid = no_room_as _ _ _ _ _ e
           (no_room _ _ _ _ c.loop-i.i (c.loop-i.i - 1) _ _ _ _ _ _ _ _ r g (omega arith) (omega arith) refl
-          (subst (λ (u : ℕ). Refused field_key c.loop-i.list.rows.now c.loop-i.list.count u (row c.args.fs.now c.loop-i.i c.loop-i.next) c.find-or-add.new.self.rows.now c.find-or-add.new.self.count)
+          (subst (λ (u : ℕ). Refused field_key c.loop-i.list.rows.now c.loop-i.list.count u (row c.args.fs.now c.loop-i.i c.loop-i.next) c.find_or_add.new.self.rows.now c.find_or_add.new.self.count)
           c.loop-i.invariant.1 c.in-None.ensures.place)
           (omega (arith, c.truncate.ensures.count)) c.truncate.ensures.long
           (λ k d h. c.truncate.ensures.below k d (omega arith)) c.truncate.ensures.above (λ k d h. c.truncate.ensures.between k d (omega arith)));

@@ -24,8 +24,8 @@ returns-then-self-eq0 c = empty c.args.self.now.rest.now c.if-self-eq0.true
 pub returns : goal.returns
 returns c =
     let w = c.args.self.now.rest.now in
-    let e = c.line-length-end.result in
-    let f = c.line-length-end.ensures.first in
+    let e = c.line_length-end.result in
+    let f = c.line_length-end.ensures.first in
     let h : 0 < length c.args.self.now.rest.now = omega (arith, c.if-self-eq0.false) in
     elim c.if-end-self.branch [
       | then-end-self x ↦ next_by w e (e + 1) _ f h (ap (λ x. x.now) x.self-is) (ap (λ (i : ℕ). drop i c.args.self.now.rest.now) (omega arith))

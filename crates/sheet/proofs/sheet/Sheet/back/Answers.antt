@@ -17,7 +17,7 @@ invariant-of-self c =
         omega (arith, a, x.long, x.cap, u.types.cap),
         (
           omega (arith, x.cap, u.types.cap),
-          (omega (arith, u.fields.count, u.fields.cap, w.fields-within), (omega (arith, b, y.long, y.cap, u.fields.cap), (omega (arith, y.cap, u.fields.cap), (∣ kept_same c.requires.0 c.requires.1 _ _ u (out w.kept) ∣₁, tt)))),
+          (omega (arith, u.fields.count, u.fields.cap, w.fields_within), (omega (arith, b, y.long, y.cap, u.fields.cap), (omega (arith, y.cap, u.fields.cap), (∣ kept_same c.requires.0 c.requires.1 _ _ u (out w.kept) ∣₁, tt)))),
         ),
       ),
     )

@@ -10,7 +10,7 @@ returns-in-Some c =
     let s = c.args.self.now in
     let x = c.in-Some.ensures.row in
     record {
-      same = c.type-row.ensures.same;
+      same = c.type_row.ensures.same;
       row = shown_row s.types.rows.now s.types.count s.fields.rows.now s.fields.count c.args.n _ (omega arith) (out s.good).sound (omega arith) (omega (arith, x.below)) (x.here blank_type);
     }
 
@@ -18,4 +18,4 @@ pub returns-in-None : goal.returns-in-None
 returns-in-None c =
     let s = c.args.self.now in
     let n = nodes_long s.types.rows.now s.types.count s.fields.rows.now s.fields.count (omega arith) in
-    record { same = c.type-row.ensures.same; row = record { unknown = omega (arith, c.in-None.ensures.row); refusal = refl } }
+    record { same = c.type_row.ensures.same; row = record { unknown = omega (arith, c.in-None.ensures.row); refusal = refl } }

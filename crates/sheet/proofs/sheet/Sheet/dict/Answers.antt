@@ -6,22 +6,22 @@ use Rattle.sheet.proofs.Makes.{known_bounded, fit_dict, fit_as, figured_as, unkn
 use Rattle.sheet.proofs.Texts.{called_dict}
 use Rattle.sheet.proofs.sheet.Sheet.dict.Goals as goal
 
-pub returns-in-err-key : goal.returns-in-err-key
-returns-in-err-key c =
+pub returns-in_err-key : goal.returns-in_err-key
+returns-in_err-key c =
     let s = c.args.self.now in
-    let p = err_from_is_err_and c.from-residual.result c.from-residual.ensures.1 in
-    let u = c.in-err-key.ensures.figures in
+    let p = err_from_is_err_and c.from_residual.result c.from_residual.ensures.1 in
+    let u = c.in_err-key.ensures.figures in
     let m = made_still s c.figures.new.self 3 (0 ∷ []) _ c.figures.ensures.same (dict_unknown s.types.cap (nodes_of s.types s.fields) c.args.k c.args.v u.unknown) in
     rw (p.1, p.2, u.refusal) (record { called = called_dict s c.figures.new.self _ c.args.k c.args.v m; made = m })
 
-pub returns-in-err-value : goal.returns-in-err-value
-returns-in-err-value c =
+pub returns-in_err-value : goal.returns-in_err-value
+returns-in_err-value c =
     let s = c.args.self.now in
-    let p = err_from_is_err_and c.from-residual-in-err-value.result c.from-residual-in-err-value.ensures.1 in
-    let u = unknown_as s _ c.args.v 1 _ c.figures.ensures.same c.in-err-value.ensures.figures in
+    let p = err_from_is_err_and c.from_residual-in_err-value.result c.from_residual-in_err-value.ensures.1 in
+    let u = unknown_as s _ c.args.v 1 _ c.figures.ensures.same c.in_err-value.ensures.figures in
     let m =
     made_still s c.figures-2.new.self 3 (1 ∷ []) _ (c.figures-2.ensures.same ∙ c.figures.ensures.same)
-    (dict_unknown_1 s.types.cap (nodes_of s.types s.fields) c.args.k c.args.v c.in-ok-key.ensures.figures.known u.unknown)
+    (dict_unknown_1 s.types.cap (nodes_of s.types s.fields) c.args.k c.args.v c.in_ok-key.ensures.figures.known u.unknown)
     in
     rw (p.1, p.2, u.refusal) (record { called = called_dict s c.figures-2.new.self _ c.args.k c.args.v m; made = m })
 
@@ -29,10 +29,10 @@ pub returns-then-k-eq0 : goal.returns-then-k-eq0
 returns-then-k-eq0 c =
     let s = c.args.self.now in
     let e = c.figures.ensures.same in
-    let v = figured_as s _ c.args.v _ e c.in-ok-value.ensures.figures in
+    let v = figured_as s _ c.args.v _ e c.in_ok-value.ensures.figures in
     let m =
     made_still s c.figures-2.new.self 4 (0 ∷ []) _ (c.figures-2.ensures.same ∙ e)
-    (dict_unit s.types.cap (nodes_of s.types s.fields) c.args.k c.args.v c.in-ok-key.ensures.figures.known v.known c.if-k-eq0.true)
+    (dict_unit s.types.cap (nodes_of s.types s.fields) c.args.k c.args.v c.in_ok-key.ensures.figures.known v.known c.if-k-eq0.true)
     in
     record { called = called_dict s c.figures-2.new.self _ c.args.k c.args.v m; made = m }
 
@@ -40,22 +40,22 @@ pub returns-then-v-eq0 : goal.returns-then-v-eq0
 returns-then-v-eq0 c =
     let s = c.args.self.now in
     let e = c.figures.ensures.same in
-    let v = figured_as s _ c.args.v _ e c.in-ok-value.ensures.figures in
+    let v = figured_as s _ c.args.v _ e c.in_ok-value.ensures.figures in
     let m =
     made_still s c.figures-2.new.self 4 (1 ∷ []) _ (c.figures-2.ensures.same ∙ e)
-    (dict_unit_1 s.types.cap (nodes_of s.types s.fields) c.args.k c.args.v c.in-ok-key.ensures.figures.known v.known c.if-k-eq0.false c.if-v-eq0.true)
+    (dict_unit_1 s.types.cap (nodes_of s.types s.fields) c.args.k c.args.v c.in_ok-key.ensures.figures.known v.known c.if-k-eq0.false c.if-v-eq0.true)
     in
     record { called = called_dict s c.figures-2.new.self _ c.args.k c.args.v m; made = m }
 
-pub returns-in-err-figures : goal.returns-in-err-figures
-returns-in-err-figures c =
+pub returns-in_err-figures : goal.returns-in_err-figures
+returns-in_err-figures c =
     let s = c.args.self.now in
     let e = c.figures.ensures.same in
-    let p = err_from_is_err_and c.from-residual-in-err-figures.result c.from-residual-in-err-figures.ensures.1 in
-    let u = c.in-err-figures.ensures in
+    let p = err_from_is_err_and c.from_residual-in_err-figures.result c.from_residual-in_err-figures.ensures.1 in
+    let u = c.in_err-figures.ensures in
     let m =
     made_still s c.figures-2.new.self 7 [] _ (c.figures-2.ensures.same ∙ e)
-    (dict_long s.types.cap (nodes_of s.types s.fields) c.args.k c.args.v _ _ c.in-ok-key.ensures.figures (figured_as s _ c.args.v _ e c.in-ok-value.ensures.figures) c.if-k-eq0.false c.if-v-eq0.false u.long)
+    (dict_long s.types.cap (nodes_of s.types s.fields) c.args.k c.args.v _ _ c.in_ok-key.ensures.figures (figured_as s _ c.args.v _ e c.in_ok-value.ensures.figures) c.if-k-eq0.false c.if-v-eq0.false u.long)
     in
     rw (p.1, p.2, u.refusal) (record { called = called_dict s c.figures-2.new.self _ c.args.k c.args.v m; made = m })
 
@@ -65,7 +65,7 @@ enter-requires c =
     let e = c.figures.ensures.same in
     record {
       fit = fit_as s _ _ (c.figures-2.ensures.same ∙ e)
-          (fit_dict s.types s.fields c.args.k c.args.v _ _ _ c.in-ok-key.ensures.figures (figured_as s _ c.args.v _ e c.in-ok-value.ensures.figures) c.if-k-eq0.false c.if-v-eq0.false (c.in-ok-figures.ensures (known_bounded _ _ _ c.in-ok-key.ensures.figures) (known_bounded _ _ _ c.in-ok-value.ensures.figures)));
+          (fit_dict s.types s.fields c.args.k c.args.v _ _ _ c.in_ok-key.ensures.figures (figured_as s _ c.args.v _ e c.in_ok-value.ensures.figures) c.if-k-eq0.false c.if-v-eq0.false (c.in_ok-figures.ensures (known_bounded _ _ _ c.in_ok-key.ensures.figures) (known_bounded _ _ _ c.in_ok-value.ensures.figures)));
       plain = refl;
     }
 
@@ -76,6 +76,6 @@ returns c =
     let e = c.figures.ensures.same in
     let m =
     made_as s c.figures-2.new.self t.types t.fields _ (dict c.args.k c.args.v) _ (c.figures-2.ensures.same ∙ e)
-    (dict_good s.types.cap (nodes_of s.types s.fields) c.args.k c.args.v _ _ c.in-ok-key.ensures.figures (figured_as s _ c.args.v _ e c.in-ok-value.ensures.figures) c.if-k-eq0.false c.if-v-eq0.false (c.in-ok-figures.ensures (known_bounded _ _ _ c.in-ok-key.ensures.figures) (known_bounded _ _ _ c.in-ok-value.ensures.figures)).short) c.enter.ensures
+    (dict_good s.types.cap (nodes_of s.types s.fields) c.args.k c.args.v _ _ c.in_ok-key.ensures.figures (figured_as s _ c.args.v _ e c.in_ok-value.ensures.figures) c.if-k-eq0.false c.if-v-eq0.false (c.in_ok-figures.ensures (known_bounded _ _ _ c.in_ok-key.ensures.figures) (known_bounded _ _ _ c.in_ok-value.ensures.figures)).short) c.enter.ensures
     in
     record { called = called_dict s t _ c.args.k c.args.v m; made = m }

@@ -6,16 +6,16 @@ use Rattle.sheet.proofs.sheet.Sheet.enter.Goals as goal
 pub invariant-of-self : goal.invariant-of-self
 invariant-of-self c =
     let s = c.args.self.now in
-    let t = c.find-or-add.new.self in
-    let a = after s.types t s.fields c.args.row s.types_within s.types_usable (out s.good) c.requires.fit c.find-or-add.result c.requires.plain c.find-or-add.ensures.place in
+    let t = c.find_or_add.new.self in
+    let a = after s.types t s.fields c.args.row s.types_within s.types_usable (out s.good) c.requires.fit c.find_or_add.result c.requires.plain c.find_or_add.ensures.place in
     (omega arith, (omega arith, (omega arith, (s.fields_within, (s.fields_usable, (s.fields_most, (∣ a.0 ∣₁, tt)))))))
 
 pub returns-in-Some : goal.returns-in-Some
 returns-in-Some c =
     let s = c.args.self.now in
-    made_some s.types c.find-or-add.new.self s.fields c.args.row s.types_within s.types_usable (out s.good) c.requires.fit _ c.find-or-add.ensures.cap c.in-Some.ensures.place
+    made_some s.types c.find_or_add.new.self s.fields c.args.row s.types_within s.types_usable (out s.good) c.requires.fit _ c.find_or_add.ensures.cap c.in-Some.ensures.place
 
 pub returns-in-None : goal.returns-in-None
 returns-in-None c =
     let s = c.args.self.now in
-    made_none s.types c.find-or-add.new.self s.fields c.args.row s.types_within s.types_usable (out s.good) c.requires.fit c.find-or-add.ensures.cap c.in-None.ensures.place
+    made_none s.types c.find_or_add.new.self s.fields c.args.row s.types_within s.types_usable (out s.good) c.requires.fit c.find_or_add.ensures.cap c.in-None.ensures.place

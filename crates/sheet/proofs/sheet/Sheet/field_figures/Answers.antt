@@ -15,25 +15,25 @@ loop-i-init c =
 
 pub loop-i-preserved : goal.loop-i-preserved
 loop-i-preserved c =
-    let x = c.in-ok-all.ensures in
-    (c.figures.ensures.same ∙ c.loop-i.invariant.0, omega (arith, x.short, ap (λ (f : Figures). f.length) x.figures), x.figures ∙ fields_with c.args.self.now c.loop-i.self c.args.fs.now c.loop-i.i (c.loop-i.i - 1) _ _ c.loop-i.invariant.0 c.in-ok-field.ensures.figures c.loop-i.invariant.2 (omega arith) (omega arith))
+    let x = c.in_ok-all.ensures in
+    (c.figures.ensures.same ∙ c.loop-i.invariant.0, omega (arith, x.short, ap (λ (f : Figures). f.length) x.figures), x.figures ∙ fields_with c.args.self.now c.loop-i.self c.args.fs.now c.loop-i.i (c.loop-i.i - 1) _ _ c.loop-i.invariant.0 c.in_ok-field.ensures.figures c.loop-i.invariant.2 (omega arith) (omega arith))
 
-pub returns-in-err-field : goal.returns-in-err-field
-returns-in-err-field c =
+pub returns-in_err-field : goal.returns-in_err-field
+returns-in_err-field c =
     let s = c.args.self.now in
-    let u = unknown_as s c.loop-i.self (get_or c.args.fs.now (c.loop-i.i - 1) 0) _ _ c.loop-i.invariant.0 c.in-err-field.ensures.figures in
+    let u = unknown_as s c.loop-i.self (get_or c.args.fs.now (c.loop-i.i - 1) 0) _ _ c.loop-i.invariant.0 c.in_err-field.ensures.figures in
     absurd (omega (arith, u.unknown, (c.requires (c.loop-i.i - 1) (omega arith)).1))
 
-pub returns-in-err-all : goal.returns-in-err-all
-returns-in-err-all c =
+pub returns-in_err-all : goal.returns-in_err-all
+returns-in_err-all c =
     let s = c.args.self.now in
-    let p = err_from_is_err_and c.from-residual-in-err-all.result c.from-residual-in-err-all.ensures.1 in
-    let x = c.in-err-all.ensures in
+    let p = err_from_is_err_and c.from_residual-in_err-all.result c.from_residual-in_err-all.ensures.1 in
+    let x = c.in_err-all.ensures in
     record {
       same = c.figures.ensures.same ∙ c.loop-i.invariant.0;
       figures = rw (p.1, p.2) (record {
         refusal = x.refusal;
-        long = omega (arith, x.long, ap (λ (f : Figures). f.length) (fields_with c.args.self.now c.loop-i.self c.args.fs.now c.loop-i.i (c.loop-i.i - 1) _ _ c.loop-i.invariant.0 c.in-ok-field.ensures.figures c.loop-i.invariant.2 (omega arith) (omega arith)), fields_longer (figures_from [] (nodes_of s.types s.fields)) c.args.fs.now (c.loop-i.i - 1));
+        long = omega (arith, x.long, ap (λ (f : Figures). f.length) (fields_with c.args.self.now c.loop-i.self c.args.fs.now c.loop-i.i (c.loop-i.i - 1) _ _ c.loop-i.invariant.0 c.in_ok-field.ensures.figures c.loop-i.invariant.2 (omega arith) (omega arith)), fields_longer (figures_from [] (nodes_of s.types s.fields)) c.args.fs.now (c.loop-i.i - 1));
       });
     }
 

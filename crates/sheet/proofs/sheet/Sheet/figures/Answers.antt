@@ -11,7 +11,7 @@ returns-in-Some c =
     let x = c.in-Some.ensures.row in
     let n = nodes_long s.types.rows.now s.types.count s.fields.rows.now s.fields.count (omega arith) in
     record {
-      same = c.type-row.ensures.same;
+      same = c.type_row.ensures.same;
       figures = record {
         known = omega (arith, x.below);
         figures =
@@ -24,4 +24,4 @@ pub returns-in-None : goal.returns-in-None
 returns-in-None c =
     let s = c.args.self.now in
     let n = nodes_long s.types.rows.now s.types.count s.fields.rows.now s.fields.count (omega arith) in
-    record { same = c.type-row.ensures.same; figures = record { unknown = omega (arith, c.in-None.ensures.row); refusal = refl } }
+    record { same = c.type_row.ensures.same; figures = record { unknown = omega (arith, c.in-None.ensures.row); refusal = refl } }

@@ -7,6 +7,6 @@ pub returns-else-n-eq0 : goal.returns-else-n-eq0
 returns-else-n-eq0 c =
     let s = c.args.self.now in
     record {
-      same = c.field-row.ensures.same;
-      row = numbered_row c.field-row.result s.types s.fields c.args.n (omega arith) (out s.good).sound.good.fields c.if-n-eq0.false c.field-row.ensures.row;
+      same = c.field_row.ensures.same;
+      row = numbered_row c.field_row.result s.types s.fields c.args.n (omega arith) (out s.good).sound.good.fields c.if-n-eq0.false c.field_row.ensures.row;
     }

@@ -17,92 +17,92 @@ use Rattle.sheet.proofs.sheet.Sheet.structure.Goals as goal
 abbrev unknown_value : List Node → List (List ℕ) → ℕ → Answer × List Node × List (List ℕ)
 unknown_value b T v = (refused 3 (v ∷ []), b, T)
 
-pub returns-in-err-all-known : goal.returns-in-err-all-known
-returns-in-err-all-known c =
+pub returns-in_err-all_known : goal.returns-in_err-all_known
+returns-in_err-all_known c =
     let s = c.args.self.now in
     let fs = c.args.fs.now in
-    let p = err_from_is_err_and c.from-residual.result c.from-residual.ensures.1 in
-    let u = c.in-err-all-known.ensures in
-    let h = ap (λ (k : ℕ). unknown_at k fs) c.next-number.ensures.number in
+    let p = err_from_is_err_and c.from_residual.result c.from_residual.ensures.1 in
+    let u = c.in_err-all_known.ensures in
+    let h = ap (λ (k : ℕ). unknown_at k fs) c.next_number.ensures.number in
     let m =
-    refused_still s c.next-number.new.self 3 (unknown_at c.next-number.result fs ∷ []) _ c.next-number.ensures.same
+    refused_still s c.next_number.new.self 3 (unknown_at c.next_number.result fs ∷ []) _ c.next_number.ensures.same
     (structure_unknown s.types.cap s.fields.cap (nodes_of s.types s.fields) (tails_in s.fields) fs (omega (arith, h, u.1))
     ∙ ap (unknown_value (nodes_of s.types s.fields) (tails_in s.fields)) (sym h))
     in
-    rw (p.1, p.2, u.0) (record { called = called_structure s c.next-number.new.self _ fs m; made = m })
+    rw (p.1, p.2, u.0) (record { called = called_structure s c.next_number.new.self _ fs m; made = m })
 
-pub returns-in-err-no-unit : goal.returns-in-err-no-unit
-returns-in-err-no-unit c =
+pub returns-in_err-no_unit : goal.returns-in_err-no_unit
+returns-in_err-no_unit c =
     let s = c.args.self.now in
     let fs = c.args.fs.now in
     let b = nodes_of s.types s.fields in
-    let p = err_from_is_err_and c.from-residual-in-err-no-unit.result c.from-residual-in-err-no-unit.ensures.1 in
-    let u = c.in-err-no-unit.ensures in
-    let known = known_by b _ fs c.next-number.ensures.number c.in-ok-all-known.ensures in
-    let m = refused_still s c.next-number.new.self 4 _ _ c.next-number.ensures.same (structure_unit s.types.cap s.fields.cap b (tails_in s.fields) fs known u.1) in
-    rw (p.1, p.2, u.0) (record { called = called_structure s c.next-number.new.self _ fs m; made = m })
+    let p = err_from_is_err_and c.from_residual-in_err-no_unit.result c.from_residual-in_err-no_unit.ensures.1 in
+    let u = c.in_err-no_unit.ensures in
+    let known = known_by b _ fs c.next_number.ensures.number c.in_ok-all_known.ensures in
+    let m = refused_still s c.next_number.new.self 4 _ _ c.next_number.ensures.same (structure_unit s.types.cap s.fields.cap b (tails_in s.fields) fs known u.1) in
+    rw (p.1, p.2, u.0) (record { called = called_structure s c.next_number.new.self _ fs m; made = m })
 
-pub returns-then-is-empty : goal.returns-then-is-empty
-returns-then-is-empty c =
+pub returns-then-is_empty : goal.returns-then-is_empty
+returns-then-is_empty c =
     let s = c.args.self.now in
     let fs = c.args.fs.now in
     let b = nodes_of s.types s.fields in
-    let known = known_by b _ fs c.next-number.ensures.number c.in-ok-all-known.ensures in
+    let known = known_by b _ fs c.next_number.ensures.number c.in_ok-all_known.ensures in
     let m =
-    refused_still s c.next-number.new.self 5 [] _ c.next-number.ensures.same
-    (structure_none s.types.cap s.fields.cap b (tails_in s.fields) fs known c.in-ok-no-unit.ensures (eqb-true (length fs) 0 (sym c.if-is-empty.ensures)))
+    refused_still s c.next_number.new.self 5 [] _ c.next_number.ensures.same
+    (structure_none s.types.cap s.fields.cap b (tails_in s.fields) fs known c.in_ok-no_unit.ensures (eqb-true (length fs) 0 (sym c.if-is_empty.ensures)))
     in
-    record { called = called_structure s c.next-number.new.self _ fs m; made = m }
+    record { called = called_structure s c.next_number.new.self _ fs m; made = m }
 
-pub field-figures-requires : goal.field-figures-requires
-field-figures-requires c =
+pub field_figures-requires : goal.field_figures-requires
+field_figures-requires c =
     let s = c.args.self.now in
     let fs = c.args.fs.now in
     let b = nodes_of s.types s.fields in
-    parts_as s _ fs c.next-number.ensures.same (parts_from b fs (known_by b _ fs c.next-number.ensures.number c.in-ok-all-known.ensures) c.in-ok-no-unit.ensures)
+    parts_as s _ fs c.next_number.ensures.same (parts_from b fs (known_by b _ fs c.next_number.ensures.number c.in_ok-all_known.ensures) c.in_ok-no_unit.ensures)
 
-pub returns-in-err-fields : goal.returns-in-err-fields
-returns-in-err-fields c =
+pub returns-in_err-fields : goal.returns-in_err-fields
+returns-in_err-fields c =
     let s = c.args.self.now in
     let fs = c.args.fs.now in
     let b = nodes_of s.types s.fields in
-    let p = err_from_is_err_and c.from-residual-in-err-fields.result c.from-residual-in-err-fields.ensures.1 in
-    let u = long_as s c.next-number.new.self fs _ c.next-number.ensures.same c.in-err-fields.ensures.figures in
-    let known = known_by b _ fs c.next-number.ensures.number c.in-ok-all-known.ensures in
+    let p = err_from_is_err_and c.from_residual-in_err-fields.result c.from_residual-in_err-fields.ensures.1 in
+    let u = long_as s c.next_number.new.self fs _ c.next_number.ensures.same c.in_err-fields.ensures.figures in
+    let known = known_by b _ fs c.next_number.ensures.number c.in_ok-all_known.ensures in
     let m =
-    refused_still s c.field-figures.new.self 7 [] _ (c.field-figures.ensures.same ∙ c.next-number.ensures.same)
-    (structure_long s.types.cap s.fields.cap b (tails_in s.fields) fs known c.in-ok-no-unit.ensures (eqb-false (length fs) 0 (sym c.if-is-empty.ensures)) (omega (arith, u.long)))
+    refused_still s c.field_figures.new.self 7 [] _ (c.field_figures.ensures.same ∙ c.next_number.ensures.same)
+    (structure_long s.types.cap s.fields.cap b (tails_in s.fields) fs known c.in_ok-no_unit.ensures (eqb-false (length fs) 0 (sym c.if-is_empty.ensures)) (omega (arith, u.long)))
     in
-    rw (p.1, p.2, u.refusal) (record { called = called_structure s c.field-figures.new.self _ fs m; made = m })
+    rw (p.1, p.2, u.refusal) (record { called = called_structure s c.field_figures.new.self _ fs m; made = m })
 
-pub returns-in-err-figures : goal.returns-in-err-figures
-returns-in-err-figures c =
+pub returns-in_err-figures : goal.returns-in_err-figures
+returns-in_err-figures c =
     let s = c.args.self.now in
     let fs = c.args.fs.now in
     let b = nodes_of s.types s.fields in
-    let p = err_from_is_err_and c.from-residual-in-err-figures.result c.from-residual-in-err-figures.ensures.1 in
-    let f = fields_as s c.next-number.new.self fs _ c.next-number.ensures.same c.in-ok-fields.ensures.figures in
-    let u = c.in-err-figures.ensures in
-    let known = known_by b _ fs c.next-number.ensures.number c.in-ok-all-known.ensures in
+    let p = err_from_is_err_and c.from_residual-in_err-figures.result c.from_residual-in_err-figures.ensures.1 in
+    let f = fields_as s c.next_number.new.self fs _ c.next_number.ensures.same c.in_ok-fields.ensures.figures in
+    let u = c.in_err-figures.ensures in
+    let known = known_by b _ fs c.next_number.ensures.number c.in_ok-all_known.ensures in
     let m =
-    refused_still s c.field-figures.new.self 7 [] _ (c.field-figures.ensures.same ∙ c.next-number.ensures.same)
-    (structure_long s.types.cap s.fields.cap b (tails_in s.fields) fs known c.in-ok-no-unit.ensures (eqb-false (length fs) 0 (sym c.if-is-empty.ensures))
+    refused_still s c.field_figures.new.self 7 [] _ (c.field_figures.ensures.same ∙ c.next_number.ensures.same)
+    (structure_long s.types.cap s.fields.cap b (tails_in s.fields) fs known c.in_ok-no_unit.ensures (eqb-false (length fs) 0 (sym c.if-is_empty.ensures))
     (omega (arith, u.long, ap (λ (x : Figures). x.length) f.figures)))
     in
-    rw (p.1, p.2, u.refusal) (record { called = called_structure s c.field-figures.new.self _ fs m; made = m })
+    rw (p.1, p.2, u.refusal) (record { called = called_structure s c.field_figures.new.self _ fs m; made = m })
 
-pub structure-of-requires : goal.structure-of-requires
-structure-of-requires c =
+pub structure_of-requires : goal.structure_of-requires
+structure_of-requires c =
     let s = c.args.self.now in
     let fs = c.args.fs.now in
     let b = nodes_of s.types s.fields in
-    let f = fields_as s c.next-number.new.self fs _ c.next-number.ensures.same c.in-ok-fields.ensures.figures in
-    let w = c.in-ok-figures.ensures (subst Bounded (sym f.figures) (fields_in_are (nodes_of s.types s.fields) fs)) in
-    let parts = parts_from b fs (known_by b _ fs c.next-number.ensures.number c.in-ok-all-known.ensures) c.in-ok-no-unit.ensures in
-    structured_as s _ fs _ (c.field-figures.ensures.same ∙ c.next-number.ensures.same)
+    let f = fields_as s c.next_number.new.self fs _ c.next_number.ensures.same c.in_ok-fields.ensures.figures in
+    let w = c.in_ok-figures.ensures (subst Bounded (sym f.figures) (fields_in_are (nodes_of s.types s.fields) fs)) in
+    let parts = parts_from b fs (known_by b _ fs c.next_number.ensures.number c.in_ok-all_known.ensures) c.in_ok-no_unit.ensures in
+    structured_as s _ fs _ (c.field_figures.ensures.same ∙ c.next_number.ensures.same)
     (record {
       parts = parts;
-      some = omega (arith, eqb-false (length fs) 0 (sym c.if-is-empty.ensures));
+      some = omega (arith, eqb-false (length fs) 0 (sym c.if-is_empty.ensures));
       few = omega (arith, few_fields b fs parts, f.short);
       figures = w.figures ∙ ap structure_figures f.figures;
       short = omega (arith, w.short, ap (λ (x : Figures). x.length) w.figures);
@@ -111,15 +111,15 @@ structure-of-requires c =
 pub returns : goal.returns
 returns c =
     let s = c.args.self.now in
-    let t = c.structure-of.new.self in
+    let t = c.structure_of.new.self in
     let fs = c.args.fs.now in
     let b = nodes_of s.types s.fields in
-    let f = fields_as s c.next-number.new.self fs _ c.next-number.ensures.same c.in-ok-fields.ensures.figures in
-    let w = c.in-ok-figures.ensures (subst Bounded (sym f.figures) (fields_in_are (nodes_of s.types s.fields) fs)) in
-    let known = known_by b _ fs c.next-number.ensures.number c.in-ok-all-known.ensures in
+    let f = fields_as s c.next_number.new.self fs _ c.next_number.ensures.same c.in_ok-fields.ensures.figures in
+    let w = c.in_ok-figures.ensures (subst Bounded (sym f.figures) (fields_in_are (nodes_of s.types s.fields) fs)) in
+    let known = known_by b _ fs c.next_number.ensures.number c.in_ok-all_known.ensures in
     let m =
-    structure_as s c.field-figures.new.self t.types t.fields fs _ _ (c.field-figures.ensures.same ∙ c.next-number.ensures.same)
-    (structure_good s.types.cap s.fields.cap b (tails_in s.fields) fs known c.in-ok-no-unit.ensures (eqb-false (length fs) 0 (sym c.if-is-empty.ensures))
-    (omega (arith, w.short, ap (λ (x : Figures). x.length) f.figures))) c.structure-of.ensures
+    structure_as s c.field_figures.new.self t.types t.fields fs _ _ (c.field_figures.ensures.same ∙ c.next_number.ensures.same)
+    (structure_good s.types.cap s.fields.cap b (tails_in s.fields) fs known c.in_ok-no_unit.ensures (eqb-false (length fs) 0 (sym c.if-is_empty.ensures))
+    (omega (arith, w.short, ap (λ (x : Figures). x.length) f.figures))) c.structure_of.ensures
     in
     record { called = called_structure s t _ fs m; made = m }

@@ -1,8 +1,8 @@
 use Rattle.layout.proofs.Keep.{out}
 use Rattle.sheet.proofs.sheet.Sheet.structure_of.Goals as goal
 
-pub file-structure-requires : goal.file-structure-requires
-file-structure-requires c =
+pub file_structure-requires : goal.file_structure-requires
+file_structure-requires c =
     let s = c.args.self.now in
     record {
       whole = record {
@@ -19,8 +19,8 @@ file-structure-requires c =
 
 pub invariant-of-self : goal.invariant-of-self
 invariant-of-self c =
-    let w = c.file-structure.ensures.whole in
-    (w.types_within, (w.types_usable, (w.types_most, (w.fields-within, (w.fields_usable, (w.fields_most, (∣ w.kept ∣₁, tt)))))))
+    let w = c.file_structure.ensures.whole in
+    (w.types_within, (w.types_usable, (w.types_most, (w.fields_within, (w.fields_usable, (w.fields_most, (∣ w.kept ∣₁, tt)))))))
 
 pub returns : goal.returns
-returns c = c.file-structure.ensures.made
+returns c = c.file_structure.ensures.made
