@@ -6,8 +6,8 @@ use Rattle.forms.proofs.Texts.{length_as}
 use Rattle.forms.proofs.Bared.{whole_span, pair_two, inner_span}
 use Rattle.forms.proofs.spans.bare.Goals as goal
 
-pub overflow-sub-result : goal.overflow-sub-result
-overflow-sub-result c =
+pub overflow_sub-result : goal.overflow_sub-result
+overflow_sub-result c =
     let s = c.args.sheet.now in
     let e = c.is_known.ensures.same in
     let f = c.length_of-count.ensures.same ∙ e in

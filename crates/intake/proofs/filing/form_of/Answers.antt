@@ -4,8 +4,8 @@ use Rattle.forms.specs.Forms.{book_in}
 use Rattle.intake.proofs.Forming.{never_short, count_is, front}
 use Rattle.intake.proofs.filing.form_of.Goals as goal
 
-pub slice-bounds-result-end : goal.slice-bounds-result-end
-slice-bounds-result-end c =
+pub slice_bounds-result-end : goal.slice_bounds-result-end
+slice_bounds-result-end c =
     let s = c.args.sheet.now in
     let w = text_of (book_in s) c.args.n in
     let e = count_is (book_in s) c.args.n w _ c.requires.known (omega arith) c.in-Ok.count c.in-Ok.ensures.answer in

@@ -22,11 +22,11 @@ added c =
 small : (c : goal.In-Some) → c.in-Some.at + 1 ≤ 65535
 small c = let g = c.loop-i.invariant.0 in place_fits _ _ c.len-start.new.self.cap _ _ _ _ g.ready.within g.ready.most (added c)
 
-pub overflow-cast-next : goal.overflow-cast-next
-overflow-cast-next c = let h = small c in omega arith
+pub overflow_cast-next : goal.overflow_cast-next
+overflow_cast-next c = let h = small c in omega arith
 
-pub overflow-add-next : goal.overflow-add-next
-overflow-add-next c = let h = small c in omega arith
+pub overflow_add-next : goal.overflow_add-next
+overflow_add-next c = let h = small c in omega arith
 
 pub loop-i-preserved : goal.loop-i-preserved
 loop-i-preserved c =

@@ -18,7 +18,7 @@ returns-in-None c =
     let e = c.container.ensures.same in
     record {
       same = c.numbered.ensures.same ∙ c.loop-k.invariant.0 ∙ e;
-      answer = get_none s _ c.loop-k.self c.args.n c.args.i c.loop-k.-k _ c.in_ok-row.row e c.loop-k.invariant.0 c.in_ok-row.ensures.row (omega arith) c.loop-k.invariant.1 c.in-None.ensures.row (omega arith);
+      answer = get_none s _ c.loop-k.self c.args.n c.args.i c.loop-k._k _ c.in_ok-row.row e c.loop-k.invariant.0 c.in_ok-row.ensures.row (omega arith) c.loop-k.invariant.1 c.in-None.ensures.row (omega arith);
     }
 
 pub loop-k-preserved : goal.loop-k-preserved
@@ -26,7 +26,7 @@ loop-k-preserved c =
     let s = c.args.self.now in
     let e = c.container.ensures.same in (
       c.numbered.ensures.same ∙ c.loop-k.invariant.0,
-      get_next s _ c.loop-k.self c.args.n c.args.i c.loop-k.-k _ c.in_ok-row.row e c.loop-k.invariant.0 c.in_ok-row.ensures.row (omega arith) c.loop-k.invariant.1 c.in-Some.field c.in-Some.ensures.row,
+      get_next s _ c.loop-k.self c.args.n c.args.i c.loop-k._k _ c.in_ok-row.row e c.loop-k.invariant.0 c.in_ok-row.ensures.row (omega arith) c.loop-k.invariant.1 c.in-Some.field c.in-Some.ensures.row,
     )
 
 pub returns-in-Some-numbered : goal.returns-in-Some-numbered
@@ -35,7 +35,7 @@ returns-in-Some-numbered c =
     let e = c.container.ensures.same in
     record {
       same = c.numbered-2.ensures.same ∙ c.loop-k.invariant.0 ∙ e;
-      answer = get_some s _ c.loop-k.self c.args.n c.args.i c.loop-k.-k _ c.in_ok-row.row e c.loop-k.invariant.0 c.in_ok-row.ensures.row (omega arith) c.loop-k.invariant.1 c.in-Some-numbered.field c.in-Some-numbered.ensures.row (omega arith);
+      answer = get_some s _ c.loop-k.self c.args.n c.args.i c.loop-k._k _ c.in_ok-row.row e c.loop-k.invariant.0 c.in_ok-row.ensures.row (omega arith) c.loop-k.invariant.1 c.in-Some-numbered.field c.in-Some-numbered.ensures.row (omega arith);
     }
 
 pub returns-in-None-numbered : goal.returns-in-None-numbered
@@ -44,5 +44,5 @@ returns-in-None-numbered c =
     let e = c.container.ensures.same in
     record {
       same = c.numbered-2.ensures.same ∙ c.loop-k.invariant.0 ∙ e;
-      answer = get_none s _ c.loop-k.self c.args.n c.args.i c.loop-k.-k _ c.in_ok-row.row e c.loop-k.invariant.0 c.in_ok-row.ensures.row (omega arith) c.loop-k.invariant.1 c.in-None-numbered.ensures.row (omega arith);
+      answer = get_none s _ c.loop-k.self c.args.n c.args.i c.loop-k._k _ c.in_ok-row.row e c.loop-k.invariant.0 c.in_ok-row.ensures.row (omega arith) c.loop-k.invariant.1 c.in-None-numbered.ensures.row (omega arith);
     }

@@ -6,4 +6,4 @@ use Rattle.sheet.proofs.sheet.Sheet.get.Given as goal
 abbrev pub invariant-loop-k : goal.invariant-loop-k
 invariant-loop-k l =
     (l.self ≡ l.initial.self)
-    × (tail_at (tails_in l.initial.self.fields) l.next ≡ drop l.-k (tail_at (tails_in l.initial.self.fields) l.initial.next))
+    × (tail_at (tails_in l.initial.self.fields) l.next ≡ drop l._k (tail_at (tails_in l.initial.self.fields) l.initial.next))

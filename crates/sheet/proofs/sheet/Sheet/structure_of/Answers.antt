@@ -17,10 +17,18 @@ file_structure-requires c =
       structure = c.requires;
     }
 
-pub invariant-of-self : goal.invariant-of-self
-invariant-of-self c =
+pub invariant_of-self : goal.invariant_of-self
+invariant_of-self c =
     let w = c.file_structure.ensures.whole in
-    (w.types_within, (w.types_usable, (w.types_most, (w.fields_within, (w.fields_usable, (w.fields_most, (∣ w.kept ∣₁, tt)))))))
+    record {
+      types_within = w.types_within;
+      types_usable = w.types_usable;
+      types_most = w.types_most;
+      fields_within = w.fields_within;
+      fields_usable = w.fields_usable;
+      fields_most = w.fields_most;
+      good = ∣ w.kept ∣₁;
+    }
 
 pub returns : goal.returns
 returns c = c.file_structure.ensures.made
