@@ -22,7 +22,7 @@ returns-then-is_structure c =
     let f = c.length_of-count.ensures.same ∙ e in
     let long = length_as s c.is_known.new.sheet e c.args.n c.length_of-count.result c.length_of-count.ensures.long in
     let p : Paired (text_of (book_in s) c.args.n) true = subst (λ (z : Sheet). Paired (text_of (book_in z) c.args.n) true) f c.if-is_structure.ensures.paired in
-    let q = inner_span (text_of (book_in s) c.args.n) c.length_of-count.result long p (omega (arith, c.length_of-count.type-inv)) in
+    let q = inner_span (text_of (book_in s) c.args.n) c.length_of-count.result long p (omega (arith, c.length_of-count.type_inv)) in
     record {
       same = c.is_structure.ensures.same ∙ f;
       covers = record { known = sym c.is_known.ensures.known ∙ c.if-not-is_known.false; inside = q.0; bytes = q.1 };
@@ -35,7 +35,7 @@ returns c =
     let f = c.length_of-count.ensures.same ∙ e in
     let long = length_as s c.is_known.new.sheet e c.args.n c.length_of-count.result c.length_of-count.ensures.long in
     let p : Paired (text_of (book_in s) c.args.n) false = subst (λ (z : Sheet). Paired (text_of (book_in z) c.args.n) false) f c.if-is_structure.ensures.paired in
-    let q = whole_span (text_of (book_in s) c.args.n) c.length_of-count.result long (omega (arith, c.length_of-count.type-inv)) in
+    let q = whole_span (text_of (book_in s) c.args.n) c.length_of-count.result long (omega (arith, c.length_of-count.type_inv)) in
     record {
       same = c.is_structure.ensures.same ∙ f;
       covers = record { known = sym c.is_known.ensures.known ∙ c.if-not-is_known.false; inside = q.0; bytes = q.1 ∙ sym p };
