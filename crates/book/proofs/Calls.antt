@@ -6,7 +6,6 @@ use lib.ListN.{length-map}
 use Rattle.std.proofs.lemmas.Bool.{ltb-false, eqb-false}
 use Rattle.grammar.specs.Lists.{In, place, add, add_all}
 use Rattle.grammar.specs.Shape.{Text, Shape, Shapes, nil, more, printed, printed_all}
-use Rattle.grammar.specs.Shape
 use Rattle.grammar.specs.declared.figures.Figures.{Figures}
 use Rattle.grammar.specs.declared.error.Fault.{Fault}
 use Rattle.grammar.specs.Scan.{fault}

@@ -5,7 +5,6 @@ use Rattle.std.proofs.lemmas.List.{get_or_append_left, get_or-map}
 use Rattle.std.proofs.lemmas.Bool.{lt-ltb, le-ltb}
 use Rattle.grammar.specs.declared.figures.Figures.{Figures}
 use Rattle.grammar.specs.Shape.{basic_codes, is_basic, Shape, Shapes, more, printed, printed_all}
-use Rattle.grammar.specs.Shape
 use Rattle.grammar.specs.Depth.{structure_depths, array_depths}
 use Rattle.grammar.specs.Figures.{figures_of, gvariant_alignments, are_fixed, hold_maybe}
 use Rattle.book.specs.Nodes.{Node, array, maybe, dict, structure, code_figures, blank_figures, array_figures, maybe_figures, dict_figures, with_field, structure_figures, figures_at, field_figures, node_figures, figures_from, basics, byte, shape_at, shapes_at, node_shape, Part, Parts, Known}

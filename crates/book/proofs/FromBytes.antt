@@ -4,7 +4,6 @@ use mathlib.Core.Option.{Option, none, some}
 use Rattle.std.proofs.lemmas.Bool.{lt-ltb, le-ltb, ltb-false, cases_Bool}
 use Rattle.grammar.specs.declared.error.Fault.{Fault}
 use Rattle.grammar.specs.Shape.{Text, Shape, Shapes, nil, more, printed, printed_all}
-use Rattle.grammar.specs.Shape
 use Rattle.grammar.specs.Valid.{longest_text}
 use Rattle.grammar.specs.Scan.{fault}
 use Rattle.grammar.specs.Read.{reading, read_all}

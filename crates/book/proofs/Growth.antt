@@ -2,7 +2,6 @@
 use Rattle.std.proofs.Common.{◌≡◌, ℕ, eqb, List, [], ◌∷◌, ◌++◌, map, length, sym, ap, ◌∙◌, append_assoc, append-nil, arith, length-append}
 use Rattle.grammar.specs.Lists.{same_list, add_all, tails}
 use Rattle.grammar.specs.Shape.{Text, Shape, Shapes, basic, nil, more, printed}
-use Rattle.grammar.specs.Shape
 use Rattle.grammar.specs.Parts.{containers}
 use Rattle.book.specs.Plain.{Limits, same_text, text_of}
 use Rattle.book.specs.Nodes.{Node, array, maybe, dict, structure, intern, intern_all, fields_of, tails_from, tails_of, shapes_from, Part, texts_of}

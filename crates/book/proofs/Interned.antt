@@ -7,7 +7,6 @@ use Rattle.std.proofs.lemmas.Bool.{cases_Bool}
 use Rattle.grammar.specs.Lists.{In, Distinct, has, place, add, add_all}
 use Rattle.grammar.specs.Shape.{Text, is_basic, basic_codes, Shape, Shapes, basic, nil, more, printed}
 use Rattle.grammar.specs.Parts.{containers, containers_all}
-use Rattle.grammar.specs.Shape
 use Rattle.book.specs.Plain.{same_text, single, known, number_of, text_of}
 use Rattle.book.specs.Nodes.{Node, array, maybe, dict, structure, same_node, enter, intern, intern_all, basics, byte, shape_at, shapes_at, node_shape, Part, Parts, Known}
 use Rattle.grammar.proofs.ReadBack.{printed_inj, head}

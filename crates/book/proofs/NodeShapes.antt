@@ -4,7 +4,6 @@ use Rattle.std.proofs.lemmas.List.{get_or_append_left, get_or-append_right}
 use Rattle.std.proofs.lemmas.Bool.{eq-eqb}
 use Rattle.grammar.specs.Lists.{Distinct}
 use Rattle.grammar.specs.Shape.{Text, is_basic, Shape, more, printed}
-use Rattle.grammar.specs.Shape
 use Rattle.book.specs.Plain.{same_text}
 use Rattle.book.specs.Nodes.{Node, array, maybe, dict, structure, code, same_node, basics, byte, shape_at, shapes_at, node_shape, Part, Parts, Known}
 use Rattle.grammar.proofs.ReadBack.{printed_inj}

@@ -8,7 +8,6 @@ use Rattle.std.proofs.lemmas.Bool.{lt-ltb, le-ltb, ne_eqb}
 use Rattle.grammar.specs.declared.figures.Figures.{Figures}
 use Rattle.grammar.specs.Lists.{has}
 use Rattle.grammar.specs.Shape.{Text, is_basic, Shape, basic, printed}
-use Rattle.grammar.specs.Shape
 use Rattle.grammar.specs.Parts.{fields}
 use Rattle.grammar.specs.Figures.{gvariant_of_code, gvariant_alignment, text_figures}
 use Rattle.grammar.specs.Read.{reading}

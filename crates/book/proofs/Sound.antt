@@ -6,7 +6,6 @@ use Rattle.std.proofs.lemmas.Bool.{and_parts}
 use Rattle.grammar.specs.Lists.{In, Distinct, has}
 use Rattle.grammar.specs.Shape.{Text, is_basic, Shape, basic, printed}
 use Rattle.grammar.specs.Parts.{containers, containers_all}
-use Rattle.grammar.specs.Shape
 use Rattle.book.specs.Plain.{same_text}
 use Rattle.book.specs.Nodes.{Node, array, maybe, dict, structure, same_node, basics, byte, shape_at, shapes_at, node_shape, Part, Parts, Known, Chain, shapes_from, figures_from}
 use Rattle.grammar.specs.Figures.{figures_of}

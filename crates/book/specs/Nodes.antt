@@ -4,7 +4,6 @@ use Rattle.std.proofs.Math.Option.{Option, none, some}
 use Rattle.grammar.specs.declared.figures.Figures.{Figures}
 use Rattle.grammar.specs.Lists.{same_list, place, add, add_all, tails}
 use Rattle.grammar.specs.Shape.{Text, basic_codes, is_basic, Shape, Shapes, basic, nil, more, printed}
-use Rattle.grammar.specs.Shape
 use Rattle.grammar.specs.Figures.{dbus_of_code, gvariant_of_code, fixed_code, unit_figures}
 use Rattle.grammar.specs.Read.{reading, read_all}
 use Rattle.grammar.specs.Refusals.{accepted, refused}

@@ -3,7 +3,6 @@ use Rattle.std.specs.Prelude.{ℕ, ◌+◌, ◌-◌, Bool, cond, List, [], ◌�
 use Rattle.std.proofs.Math.Option.{Option, none, some}
 use Rattle.grammar.specs.declared.figures.Figures.{Figures}
 use Rattle.grammar.specs.Shape.{Text, Shape, basic, printed}
-use Rattle.grammar.specs.Shape
 use Rattle.grammar.specs.Parts.{fields}
 use Rattle.grammar.specs.Figures.{text_figures}
 use Rattle.grammar.specs.Read.{reading}

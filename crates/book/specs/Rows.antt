@@ -4,7 +4,6 @@ use Rattle.std.specs.Prelude.{ℕ, ◌+◌, List, [], ◌∷◌, map, length, na
 use Rattle.std.proofs.Math.Option.{Option, none, some}
 use Rattle.grammar.specs.Lists.{same_list, place}
 use Rattle.grammar.specs.Shape.{Text, Shape, basic, printed}
-use Rattle.grammar.specs.Shape
 use Rattle.grammar.specs.Parts.{fields}
 use Rattle.grammar.specs.Read.{reading}
 use Rattle.book.specs.Plain.{same_text, number_of, tails_of}

@@ -1,9 +1,9 @@
 -- The numbers of the basic codes.
-use Rattle.std.proofs.Common.{◌≡◌, ℕ, zero, suc, ◌+◌, ◌-◌, ◌<◌, ◌≤◌, true, eqb, List, [], ◌∷◌, ◌++◌, map, length, get_or, sym, refl, ap, ◌∙◌, sub-one, arith}
+use Rattle.std.proofs.Common.{◌≡◌, ℕ, zero, suc, ◌+◌, ◌-◌, ◌<◌, ◌≤◌, true, eqb, List, [], ◌∷◌, map, length, get_or, sym, refl, ap, ◌∙◌, arith}
 use Rattle.std.proofs.lemmas.List.{get_or_append_left}
 use Rattle.grammar.specs.Lists.{place}
 use Rattle.grammar.specs.Shape.{Text, basic_codes, is_basic, basic}
-use Rattle.book.specs.Plain.{single, known, text_of}
+use Rattle.book.specs.Plain.{single, text_of}
 use Rattle.book.proofs.Lists.{numbers, has_in, place_in}
 use Rattle.building.specs.Building.{Filed, CodeNumber}
 

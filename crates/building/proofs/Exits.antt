@@ -1,17 +1,16 @@
 -- The ways out of the building functions: what each comes to.
-use Rattle.std.proofs.Common.{◌≡◌, ℕ, zero, suc, ◌+◌, ◌-◌, ◌<◌, ◌≤◌, Bool, true, false, ◌⊎◌, List, [], ◌∷◌, ◌++◌, map, length, take, drop, set, Ok, Err, Result, sym, refl, ap, ◌∙◌, subst, inl, inr, append_assoc, append-nil, arith, length-append}
-use Rattle.std.proofs.lemmas.List.{drop_all, take_more_set, drop-append-le, length-take-le, take-take, take-set-le, drop-take}
+use Rattle.std.proofs.Common.{◌≡◌, ℕ, zero, suc, ◌≤◌, Bool, true, List, [], ◌∷◌, ◌++◌, map, length, drop, Ok, Err, Result, sym, refl, ap, ◌∙◌, subst, arith, length-append}
+use Rattle.std.proofs.lemmas.List.{drop_all}
 use Rattle.grammar.specs.declared.error.Refusal.{Refusal}
-use Rattle.grammar.specs.Shape.{Text, is_basic, Shape, basic, array, dict, structure, maybe, Shapes, nil, more, printed, printed_all}
+use Rattle.grammar.specs.Shape.{Text, is_basic, Shape, basic, array, dict, structure, maybe, Shapes, more, printed}
 use Rattle.grammar.specs.Parts.{containers}
-use Rattle.grammar.specs.Refusals.{outcome}
-use Rattle.reader.specs.Bytes.{Ate, Stayed, Eaten}
+use Rattle.reader.specs.Bytes.{Eaten}
 use Rattle.book.specs.Plain.{Limits, longest_form, call}
 use Rattle.book.specs.Plain
-use Rattle.building.specs.Building.{Fits, with, with_all, Says, Filed, FiledAll, joined, Built, NoRoom, Comes, Builds, NoMaybe, BuildsBare, BuildsFields, maybes, Behind, Skips, Wraps, Onward}
-use Rattle.building.proofs.Growth.{with_array, with_maybe, with_dict, with_structure, with_again, with_joined, with_one, with_all_more, fits_part, fits_add, fits_all, fits_joined, fits_maybes, with_maybes, filed_add, filed_all_add, filed_all_push, joined_assoc, joined_nil, printed_joined}
+use Rattle.building.specs.Building.{Fits, with, Says, Filed, FiledAll, Built, NoRoom, Comes, Builds, NoMaybe, BuildsBare, BuildsFields, maybes, Skips, Wraps}
+use Rattle.building.proofs.Growth.{with_array, with_dict, with_again, fits_part, fits_add, fits_maybes, with_maybes, filed_add}
 use Rattle.building.proofs.Making.{made, early_array, early_maybe, early_dict, early_structure, whole_array, whole_maybe, whole_dict, whole_structure}
-use Rattle.building.proofs.Views.{un, never_41, never_empty, split_array, split_pair, split_structure, closed}
+use Rattle.building.proofs.Views.{un, never_empty, split_array, split_pair, split_structure, closed}
 
 -- the same whole built from a later book
 pub comes_from : (limits : Limits) (b c : List Text) (t : Shape) (r : Result ℕ Refusal) (b' : List Text) (left rest : Text) → with c t ≡ with b t → Comes limits c t r b' left rest → Comes limits b t r b' left rest

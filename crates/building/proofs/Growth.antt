@@ -1,13 +1,13 @@
 -- Books that grow by the containers of shapes.
-use Rattle.std.proofs.Common.{◌≡◌, ℕ, zero, suc, ◌+◌, ◌<◌, ◌≤◌, Bool, true, false, cond, ◌||◌, eqb, ltb, ◌⊎◌, List, [], ◌∷◌, ◌++◌, map, length, get_or, sym, refl, ap, ◌∙◌, subst, inl, inr, append_assoc, append-nil, arith, length-append}
-use mathlib.Core.Option.{Option, none, some}
-use Rattle.grammar.specs.Lists.{In, same_list, add_all, tails}
-use Rattle.grammar.specs.Shape.{Text, basic_codes, Shape, Shapes, basic, array, maybe, dict, structure, nil, more, printed, printed_all}
+use Rattle.std.proofs.Common.{◌≡◌, ℕ, zero, suc, ◌+◌, ◌≤◌, List, [], ◌∷◌, ◌++◌, map, length, sym, refl, ap, ◌∙◌, subst, inr, append_assoc, append-nil, arith, length-append}
+use mathlib.Core.Option.{Option}
+use Rattle.grammar.specs.Lists.{same_list, add_all, tails}
+use Rattle.grammar.specs.Shape.{Text, basic_codes, Shape, Shapes, array, maybe, dict, structure, nil, more, printed, printed_all}
 use Rattle.grammar.specs.Parts.{containers, containers_all}
 use Rattle.grammar.specs.Read.{reading}
 use Rattle.grammar.proofs.ReadBack.{reading_printed}
-use Rattle.book.specs.Plain.{Limits, same_text, single, known, text_of, containers_of, fields_of, grown, tails_from, tails_of}
-use Rattle.book.proofs.Lists.{in_left, add_all_old, add_all_append, add_all_in, add_all_longer, same_lists}
+use Rattle.book.specs.Plain.{Limits, same_text, single, known, containers_of, fields_of, grown, tails_from, tails_of}
+use Rattle.book.proofs.Lists.{add_all_old, add_all_append, add_all_in, add_all_longer, same_lists}
 use Rattle.book.proofs.NodeShapes.{same_texts}
 use Rattle.book.proofs.Backed.{known_keeps}
 use Rattle.building.specs.Building.{Fits, with, with_all, Filed, FiledAll, joined, maybes}

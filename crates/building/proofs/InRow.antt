@@ -1,18 +1,16 @@
 -- Types in a row, on a stack of numbers; a number behind its 'm'; a whole text.
 use Rattle.std.proofs.Common.{◌≡◌, ℕ, zero, suc, ◌+◌, ◌-◌, ◌<◌, ◌≤◌, Bool, true, false, ◌⊎◌, List, [], ◌∷◌, ◌++◌, map, length, get_or, take, drop, set, Ok, Err, Result, sym, refl, ap, ◌∙◌, subst, inl, inr, append_assoc, append-nil, arith, length-append, length-drop}
-use mathlib.Core.Option.{Option, none, some}
 use Rattle.std.proofs.lemmas.List.{drop_all, take_more_set, drop-append-le, length-take-le, take-take, take-set-le, drop-take}
 use Rattle.grammar.specs.declared.error.Refusal.{Refusal}
-use Rattle.grammar.specs.Shape.{Text, Shape, basic, array, dict, structure, maybe, Shapes, nil, more, printed, printed_all}
-use Rattle.grammar.specs.Parts.{containers, containers_all}
-use Rattle.grammar.proofs.ReadBack.{long}
-use Rattle.reader.specs.Bytes.{Ate, Stayed, Eaten}
+use Rattle.grammar.specs.Shape.{Text, Shape, structure, maybe, Shapes, nil, more, printed, printed_all}
+use Rattle.grammar.specs.Parts.{containers}
+use Rattle.reader.specs.Bytes.{Eaten}
 use Rattle.reader.specs.Parsing.{count_of}
 use Rattle.book.specs.Plain.{Limits, longest_form}
 use Rattle.book.specs.Plain
-use Rattle.building.specs.Building.{Fits, with, with_all, Says, Filed, FiledAll, joined, Built, NoRoom, Comes, Builds, BuildsFields, maybes, Wraps, Onward, whole_of, ComesWhole, BuildsWhole}
-use Rattle.building.proofs.Growth.{with_maybe, with_structure, with_again, with_maybes, with_joined, with_one, with_all_more, fits_all, fits_joined, fits_maybes, filed_all_add, filed_all_push, joined_assoc, joined_nil, printed_joined}
-use Rattle.building.proofs.Exits.{comes_from, maybe_made, structure_made, shorter}
+use Rattle.building.specs.Building.{Fits, with, with_all, Says, Filed, FiledAll, joined, NoRoom, Comes, Builds, BuildsFields, maybes, Wraps, Onward, whole_of, ComesWhole, BuildsWhole}
+use Rattle.building.proofs.Growth.{with_maybe, with_structure, with_joined, with_one, fits_all, fits_joined, fits_maybes, filed_all_add, filed_all_push, joined_assoc, joined_nil, printed_joined}
+use Rattle.building.proofs.Exits.{comes_from, maybe_made, structure_made}
 use Rattle.building.proofs.Views.{un, never_41, never_empty}
 
 -- The stack of numbers that wait for their structure.

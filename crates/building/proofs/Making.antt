@@ -1,22 +1,21 @@
 -- What a maker's call comes to where its parts are filed and its form is not too long: the whole is filed, or there is no
 -- room.
-use Rattle.std.proofs.Common.{◌≡◌, ℕ, ◌+◌, ◌<◌, ◌≤◌, Bool, true, false, cond, ◌||◌, eqb, ltb, ◌⊎◌, List, [], ◌∷◌, ◌++◌, map, length, Ok, Err, Result, sym, refl, ap, ◌∙◌, subst, inl, inr, append_assoc, arith}
-use mathlib.Core.Option.{Option, none, some}
-use Rattle.std.proofs.lemmas.Bool.{cases_Bool, ne_eqb, lt-ltb, le-ltb, ltb-true, ltb-false}
+use Rattle.std.proofs.Common.{◌≡◌, ℕ, ◌+◌, ◌<◌, ◌≤◌, Bool, true, false, ◌||◌, eqb, ltb, ◌⊎◌, List, [], ◌∷◌, ◌++◌, map, length, Ok, Err, Result, sym, refl, ap, ◌∙◌, subst, inl, inr, append_assoc, arith}
+use mathlib.Core.Option.{Option, none}
+use Rattle.std.proofs.lemmas.Bool.{cases_Bool, ne_eqb, le-ltb, ltb-false}
 use Rattle.grammar.specs.declared.error.Refusal.{Refusal}
 use Rattle.grammar.specs.declared.error.Refusal.TheVariants.{TextTooLong, Invalid, Unknown, UnitPart, NoFields, WrongKind, FormTooLong, NoRows, ShortBuffer}
-use Rattle.grammar.specs.Lists.{In, Distinct, add_all}
+use Rattle.grammar.specs.Lists.{In, Distinct}
 use Rattle.grammar.specs.Shape.{Text, basic_codes, Shape, Shapes, basic, nil, more, printed, printed_all}
-use Rattle.grammar.specs.Shape
 use Rattle.grammar.specs.Parts.{Container, containers, containers_all}
 use Rattle.grammar.specs.Refusals.{Outcome, accepted, refused, outcome, number_of}
 use Rattle.grammar.proofs.ReadBack.{long}
 use Rattle.book.specs.Plain.{Call, array, maybe, dict, structure, Limits, Refusing, longest_form, same_text, single, known, text_of, texts, whole_text, grown, tails_of, early, late, needed, answered, call, when, at, next, first_at, ◌else◌}
 use Rattle.book.specs.Plain
-use Rattle.book.proofs.Lists.{in_left, in_right, add_all_in, place_in, place_at}
+use Rattle.book.proofs.Lists.{in_right, add_all_in, place_in, place_at}
 use Rattle.book.proofs.NodeShapes.{same_texts}
 use Rattle.book.proofs.Sound.{in_map}
-use Rattle.building.specs.Building.{Fits, with, Filed, FiledAll, Built, NoRoom, Comes}
+use Rattle.building.specs.Building.{Fits, with, Filed, FiledAll, Comes}
 use Rattle.building.proofs.Growth.{grown_with}
 
 -- a container is among its own containers, and so in the book with it

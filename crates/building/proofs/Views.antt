@@ -1,7 +1,7 @@
 -- What the first byte of a type says of it.
-use Rattle.std.proofs.Common.{◌≡◌, ℕ, zero, suc, ◌+◌, ◌-◌, ◌<◌, ◌≤◌, Bool, true, false, List, [], ◌∷◌, ◌++◌, length, take, drop, sym, refl, ap, ◌∙◌, subst, append_assoc, arith}
-use Rattle.grammar.specs.Shape.{Text, is_basic, Shape, basic, array, dict, structure, maybe, Shapes, nil, more, printed, printed_all}
-use Rattle.reader.specs.Bytes.{Ate, Stayed, Eaten}
+use Rattle.std.proofs.Common.{◌≡◌, ℕ, suc, Bool, true, false, [], ◌∷◌, ◌++◌, drop, sym, refl, ap, ◌∙◌, append_assoc, arith}
+use Rattle.grammar.specs.Shape.{Text, is_basic, Shape, basic, array, dict, structure, maybe, Shapes, more, printed, printed_all}
+use Rattle.reader.specs.Bytes.{Eaten}
 use Rattle.building.specs.Building.{NoMaybe, maybes, Behind}
 
 pub un : (b c : ℕ) (v u : Text) → b ∷ v ≡ c ∷ u → (b ≡ c) × (v ≡ u)

@@ -1,5 +1,5 @@
 -- A whole text's call: what the plain book answers.
-use Rattle.std.proofs.Common.{◌≡◌, ℕ, ◌+◌, ◌<◌, ◌≤◌, Bool, true, false, ◌||◌, ltb, ◌⊎◌, List, [], ◌∷◌, ◌++◌, length, Ok, Err, Result, sym, refl, ap, ◌∙◌, subst, inl, inr, append-nil, arith, length-append}
+use Rattle.std.proofs.Common.{◌≡◌, ℕ, ◌+◌, ◌<◌, ◌≤◌, Bool, false, ◌||◌, ltb, ◌⊎◌, List, [], ◌∷◌, ◌++◌, length, Result, sym, ap, ◌∙◌, subst, inl, inr, append-nil, arith, length-append}
 use mathlib.Core.Option.{Option, none, some}
 use Rattle.std.proofs.lemmas.Bool.{lt-ltb, le-ltb}
 use Rattle.grammar.specs.declared.error.Fault.{Fault}
@@ -7,15 +7,14 @@ use Rattle.grammar.specs.declared.error.Refusal.{Refusal}
 use Rattle.grammar.specs.Lists.{Distinct, add_all}
 use Rattle.grammar.specs.Shape.{Text, Shape, Shapes, structure, nil, more, printed, printed_all}
 use Rattle.grammar.specs.Valid.{longest_text, Valid, FaultOf}
-use Rattle.grammar.specs.Scan.{fault}
-use Rattle.grammar.specs.Read.{reading, read_all}
+use Rattle.grammar.specs.Read.{read_all}
 use Rattle.grammar.specs.Refusals.{Outcome, accepted, refused, letter_of, outcome}
 use Rattle.grammar.proofs.ScanExact.{valid_scans, fault_scans}
 use Rattle.grammar.proofs.ReadBack.{read_all_printed, reading_empty}
 use Rattle.grammar.proofs.Prefix.{bare}
 use Rattle.reader.specs.Parsing.{count_of}
-use Rattle.book.specs.Plain.{from_bytes, Limits, Refusing, longest_form, same_text, known, text_of, number_of, whole_text, containers_of, grown, tails_of, early, late, needed, answered, call, when, by, enclosed, ◌else◌}
-use Rattle.building.specs.Building.{Fits, Comes, whole_of, ComesWhole, BuildsWhole}
+use Rattle.book.specs.Plain.{from_bytes, Limits, Refusing, longest_form, same_text, known, number_of, whole_text, containers_of, grown, tails_of, early, late, needed, answered, call, when, enclosed, ◌else◌}
+use Rattle.building.specs.Building.{Fits, whole_of, ComesWhole, BuildsWhole}
 use Rattle.building.proofs.Making.{told, after, or_false}
 
 module _ (limits : Limits) (b : List Text) (w : Text) where

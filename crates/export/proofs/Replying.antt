@@ -1,13 +1,12 @@
 -- A reply says what the outcome says.
 use Rattle.std.proofs.Common.{◌≡◌, ℕ, ◌<◌, List, [], ◌∷◌, Ok, Err, Result, sym, refl, ap, subst, ap₂, arith}
-use Rattle.grammar.specs.declared.error.Fault.{Fault}
 use Rattle.grammar.specs.declared.error.Refusal.{Refusal}
 use Rattle.grammar.specs.declared.error.Refusal.TheVariants.{TextTooLong, Invalid, Unknown, UnitPart, NoFields, WrongKind, FormTooLong, NoRows, ShortBuffer}
 use Rattle.grammar.specs.Shape.{Text}
 use Rattle.grammar.specs.Refusals.{Outcome, accepted, refused, number_of, values_of, letter_of, outcome}
 use Rattle.reader.specs.Judged.{Judged}
 use Rattle.export.specs.declared.reply.Reply.{Reply}
-use Rattle.export.specs.Replies.{cause_in, place_in, accepting, refusing, reply_of, Replied}
+use Rattle.export.specs.Replies.{cause_in, place_in, accepting, reply_of, Replied}
 
 positive : (e : Refusal) → 0 < number_of e
 positive TextTooLong = omega arith

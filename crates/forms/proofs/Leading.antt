@@ -4,7 +4,7 @@ use Rattle.grammar.specs.Lists.{In}
 use Rattle.grammar.specs.Shape.{Text}
 use Rattle.rows.specs.Found.{Located}
 use Rattle.book.specs.Plain.{text_of, texts}
-use Rattle.book.specs.Nodes.{Node, structure, maybe}
+use Rattle.book.specs.Nodes.{Node, maybe}
 use Rattle.sheet.specs.declared.sheet.Sheet.{Sheet}
 use Rattle.layout.specs.declared.row.TypeRow.{TypeRow}
 use Rattle.layout.specs.declared.row.FieldRow.{FieldRow}

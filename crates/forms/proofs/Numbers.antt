@@ -8,7 +8,6 @@ use Rattle.book.proofs.NodeShapes.{same_texts}
 use Rattle.book.proofs.Questions.{texts_count, equal_agrees}
 use Rattle.sheet.specs.declared.sheet.Sheet.{Sheet}
 use Rattle.layout.specs.Kept.{nodes_of}
-use Rattle.layout.specs.Called.{book_of}
 use Rattle.sheet.proofs.Texts.{good_book}
 use Rattle.forms.specs.Forms.{book_in}
 

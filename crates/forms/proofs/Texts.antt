@@ -19,7 +19,6 @@ use Rattle.layout.specs.declared.row.TypeRow.{TypeRow}
 use Rattle.layout.specs.declared.row.FieldRow.{FieldRow}
 use Rattle.layout.specs.Tails.{blank_field, row_tails}
 use Rattle.layout.specs.Kept.{blank_type, figures_in, nodes_of, types_in, fields_in}
-use Rattle.layout.specs.Called.{book_of}
 use Rattle.layout.proofs.Keep.{out}
 use Rattle.layout.proofs.Ask.{row_figures_are}
 use Rattle.layout.proofs.Laying.{tails_long, tails_at_is}

@@ -1,10 +1,10 @@
 -- What is printed is read back.
-use Rattle.std.proofs.Common.{◌≡◌, ℕ, zero, suc, ◌+◌, ◌<◌, ◌≤◌, Bool, true, false, cond, eqb, ltb, List, [], ◌∷◌, ◌++◌, map, length, get_or, drop, sym, refl, ap, ◌∙◌, subst, append_assoc, append-nil, arith, length-append}
+use Rattle.std.proofs.Common.{◌≡◌, ℕ, zero, suc, ◌+◌, ◌≤◌, true, false, [], ◌∷◌, ◌++◌, length, sym, refl, ap, ◌∙◌, append_assoc, append-nil, arith, length-append}
 use mathlib.Core.Bool.{Bool-discrete, Bool-set}
-use mathlib.Core.Option.{Option, none, some}
-use Rattle.std.proofs.lemmas.Bool.{ne_eqb, eq-eqb}
+use mathlib.Core.Option.{none, some}
+use Rattle.std.proofs.lemmas.Bool.{ne_eqb}
 use Rattle.grammar.specs.Shape.{Text, is_basic, Shape, basic, array, maybe, dict, structure, Shapes, nil, more, printed, printed_all}
-use Rattle.grammar.specs.Read.{Front, code, arrays, dicts, structures, maybes, nothing, behind_a, front_by, front, Found, then, closed, closing, read_type, read_rest, whole, reading, read_types, read_all}
+use Rattle.grammar.specs.Read.{code, arrays, dicts, structures, maybes, front_by, front, closing, read_type, read_rest, whole, reading, read_types, read_all}
 
 pub record Head (t : Shape) : Type 0 where
   pub byte : ℕ

@@ -1,9 +1,9 @@
 -- A shape's text is read to its end.
-use Rattle.std.proofs.Common.{◌≡◌, ℕ, ◌+◌, ◌-◌, ◌<◌, ◌≤◌, max, Bool, true, false, List, [], ◌∷◌, ◌++◌, sym, refl, ap, ◌∙◌, subst, append_assoc, arith}
+use Rattle.std.proofs.Common.{◌≡◌, ℕ, ◌-◌, ◌≤◌, true, false, List, [], ◌∷◌, ◌++◌, sym, refl, ap, ◌∙◌, append_assoc, arith}
 use Rattle.grammar.specs.Shape.{Text, is_basic, Shape, basic, array, dict, structure, maybe, Shapes, nil, more, printed, printed_all}
 use Rattle.grammar.specs.Depth.{structure_depth, structure_depths, array_depth, array_depths}
-use Rattle.grammar.specs.Scan.{Frame, one, others, element, close, types, Step, go, stop, Verdict, good, bad, begin, step, run}
-use Rattle.grammar.proofs.ScanSteps.{run_next, run_stop, run_same, run_good, begin_basic, begin_maybe, begin_array, begin_structure, step_one, step_types, step_others, step_others_end, step_element, step_element_pair, step_close}
+use Rattle.grammar.specs.Scan.{Frame, one, others, element, close, types, good, run}
+use Rattle.grammar.proofs.ScanSteps.{run_next, run_same, run_good, begin_basic, begin_maybe, begin_array, begin_structure, step_one, step_types, step_others, step_others_end, step_element, step_element_pair, step_close}
 
 -- what a shape's text begins with
 pub record Front (t : Shape) : Type 0 where

@@ -1,5 +1,5 @@
 -- The verdict of a run is what the grammar says of the text.
-use Rattle.std.proofs.Common.{◌≡◌, ℕ, suc, ◌+◌, ◌-◌, ◌<◌, ◌≤◌, max, Bool, true, false, ◌⊎◌, List, [], ◌∷◌, ◌++◌, length, get_or, take, drop, sym, refl, ap, ◌∙◌, subst, ap₂, inl, inr, append_assoc, append-nil, arith, length-append, length-drop, drop-cons, take_at, take-add, drop_at}
+use Rattle.std.proofs.Common.{◌≡◌, ℕ, suc, ◌+◌, ◌-◌, ◌<◌, ◌≤◌, ◌⊎◌, List, [], ◌∷◌, ◌++◌, length, get_or, take, drop, sym, refl, ap, ◌∙◌, subst, ap₂, inl, inr, append_assoc, append-nil, arith, length-append, length-drop, drop-cons, take_at, take-add, drop_at}
 use mathlib.Core.Option.{Option, none, some}
 use Rattle.std.proofs.lemmas.Bool.{cases_eq, cases_lt}
 use Rattle.grammar.specs.declared.error.Cause.{Cause}
@@ -9,9 +9,9 @@ use Rattle.grammar.specs.declared.error.Fault.{Fault}
 use Rattle.grammar.specs.Valid.{Valid, Start, Place, Because, FaultOf, StartAtAnyDepth}
 use Rattle.grammar.specs.Scan.{Frame, one, others, element, close, types, Step, go, stop, Verdict, good, bad, begin, step, final, run, top, fault_by, fault}
 use Rattle.grammar.specs.Laws.{OneFault, ScanIsExact, ExactlyOneFault}
-use Rattle.grammar.proofs.ScanSteps.{run_next, run_stop, run_same, run_good, run_one, run_others, run_element, run_close, run_final, begin_basic, step_one, step_types, step_none, step_others, step_others_end, step_element, step_element_pair, step_close, step_close_not, Begins, begins, is_code, is_maybe, is_array, is_structure, is_deep, is_other}
-use Rattle.grammar.proofs.ScanComplete.{complete_top, Front, front}
-use Rattle.grammar.proofs.ScanSound.{sound, Reads}
+use Rattle.grammar.proofs.ScanSteps.{run_next, run_stop, run_good, run_one, run_others, run_element, run_close, begin_basic, step_one, step_types, step_none, step_others, step_others_end, step_element, step_element_pair, step_close, step_close_not, Begins, begins, is_code, is_maybe, is_array, is_structure, is_deep, is_other}
+use Rattle.grammar.proofs.ScanComplete.{complete_top, front}
+use Rattle.grammar.proofs.ScanSound.{sound}
 use Rattle.grammar.proofs.ScanRaise.{raise, raise_step, raise_deep}
 
 pub valid_good : (w : Text) → Valid w → run (top) w ≡ good

@@ -1,5 +1,5 @@
 -- A text read back as a tree, however deep. It computes, and is proved to be the way back from printing (see Laws).
-use Rattle.std.specs.Prelude.{◌≡◌, ℕ, zero, suc, ◌+◌, Bool, true, false, cond, List, [], ◌∷◌, ◌++◌, length, ◌==◌}
+use Rattle.std.specs.Prelude.{◌≡◌, ℕ, zero, suc, ◌+◌, true, cond, [], ◌∷◌, length, ◌==◌}
 use Rattle.std.proofs.Math.Bool.{Bool-discrete}
 use Rattle.std.proofs.Math.Option.{Option, none, some}
 use Rattle.grammar.specs.Shape.{Text, is_basic, Shape, basic, array, maybe, dict, structure, Shapes, nil, more}

@@ -2,7 +2,6 @@
 use Rattle.std.specs.Prelude.{ℕ, List, [], ◌∷◌, ◌++◌, Ok, Err, decimal, Result}
 use Rattle.grammar.specs.declared.error.Cause.{Cause}
 use Rattle.grammar.specs.declared.error.Cause.TheVariants.{Ended, TooDeep, Unexpected}
-use Rattle.grammar.specs.declared.error.Fault.{Fault}
 use Rattle.grammar.specs.declared.error.Refusal.{Refusal}
 use Rattle.grammar.specs.declared.error.Refusal.TheVariants.{TextTooLong, Invalid, Unknown, UnitPart, NoFields, WrongKind, FormTooLong, NoRows, ShortBuffer}
 

@@ -4,11 +4,10 @@ use Rattle.std.specs.Result.{result_unwrap_or}
 use Rattle.std.proofs.lemmas.Bool.{eqb-true}
 use Rattle.grammar.specs.declared.error.Refusal.{Refusal}
 use Rattle.grammar.specs.declared.figures.Figures.{Figures}
-use Rattle.grammar.specs.Shape.{Text}
 use Rattle.grammar.specs.Figures.{text_figures}
-use Rattle.grammar.specs.Refusals.{Outcome, accepted, refused, outcome, number_of, values_of}
+use Rattle.grammar.specs.Refusals.{Outcome, accepted, refused, outcome}
 use Rattle.book.specs.Plain.{text_of}
-use Rattle.book.specs.Questions.{if_known, figure_of, alignment, alignment_in, alignment_of, Format}
+use Rattle.book.specs.Questions.{figure_of, alignment, alignment_in, alignment_of, Format}
 use Rattle.sheet.specs.declared.sheet.Sheet.{Sheet}
 use Rattle.layout.specs.Called.{book_of}
 use Rattle.printing.specs.declared.printing.Printed.{Printed}

@@ -1,6 +1,6 @@
 -- What holds after any history.
-use Rattle.std.proofs.Common.{◌≡◌, ℕ, ◌+◌, ◌-◌, ◌<◌, ◌≤◌, Bool, true, cond, ltb, ◌⊎◌, ◌↔◌, List, [], ◌∷◌, ◌++◌, map, length, get_or, take, Result, sym, refl, ap, ◌∙◌, subst, ap₂, inl, inr, arith, lt-ltb}
-use Rattle.std.proofs.lemmas.List.{get_or-map, get_or-take, get_or-append-add, length-map, length-take-le, take_all}
+use Rattle.std.proofs.Common.{◌≡◌, ℕ, ◌+◌, ◌-◌, ◌<◌, ◌≤◌, Bool, cond, ◌⊎◌, ◌↔◌, List, [], ◌∷◌, ◌++◌, map, length, get_or, take, Result, sym, ap, ◌∙◌, subst, ap₂, inl, inr, arith, lt-ltb}
+use Rattle.std.proofs.lemmas.List.{get_or-map, get_or-take, get_or-append-add, length-take-le, take_all}
 use Rattle.std.proofs.lemmas.Bool.{cases_lt}
 use Rattle.grammar.specs.declared.error.Refusal.{Refusal}
 use Rattle.grammar.specs.declared.figures.Figures.{Figures}

@@ -1,16 +1,15 @@
 -- A printed form put into a buffer that is long enough.
-use Rattle.std.proofs.Common.{◌≡◌, ℕ, ◌+◌, ◌-◌, ◌<◌, ◌≤◌, Bool, true, false, cond, ltb, ◌⊎◌, List, [], ◌∷◌, ◌++◌, length, take, drop, sym, refl, ap, ◌∙◌, subst, ap₂, inl, inr, arith, le-ltb, lt-ltb}
-use mathlib.Core.Option.{Option, some}
+use Rattle.std.proofs.Common.{◌≡◌, ℕ, ◌+◌, ◌-◌, ◌<◌, ◌≤◌, Bool, true, cond, ltb, ◌⊎◌, List, [], ◌∷◌, ◌++◌, length, take, drop, sym, refl, ap, ◌∙◌, subst, ap₂, inl, inr, arith, le-ltb, lt-ltb}
+use mathlib.Core.Option.{Option}
 use Rattle.std.proofs.lemmas.Bool.{ltb-true}
 use lib.Seq.{take-append-le}
 use Rattle.std.proofs.lemmas.List.{take_all}
-use Rattle.grammar.specs.Lists.{In}
 use Rattle.grammar.specs.Shape.{Text, Shape, printed}
 use Rattle.grammar.specs.Figures.{figures_by, text_figures}
 use Rattle.grammar.proofs.ReadBack.{reading_printed, reading_empty}
 use Rattle.grammar.specs.declared.figures.Figures.{Figures}
 use Rattle.grammar.specs.Refusals.{Outcome, accepted, refused}
-use Rattle.book.specs.Plain.{Answer, Call, Limits, from_bytes, known, text_of, call, run}
+use Rattle.book.specs.Plain.{Answer, Call, known, text_of}
 use Rattle.book.specs.Nodes.{shapes_from}
 use Rattle.book.specs.Questions.{figure_of}
 use Rattle.book.proofs.Agree.{good_sound}
@@ -22,7 +21,7 @@ use Rattle.layout.specs.Kept.{nodes_of}
 use Rattle.layout.specs.Called.{book_of, limits_of, Called}
 use Rattle.sheet.proofs.Texts.{good_book}
 use Rattle.forms.specs.Forms.{book_in}
-use Rattle.printing.specs.Forms.{into_of, into_after}
+use Rattle.printing.specs.Forms.{into_of}
 
 abbrev value : Outcome ℕ → ℕ → ℕ
 value (accepted x) d = x

@@ -1,5 +1,5 @@
 -- The line that is written of a filed one.
-use Rattle.std.specs.Prelude.{ℕ, Bool, cond, List, [], ◌∷◌, ◌++◌, codes, decimal, ◌==◌}
+use Rattle.std.specs.Prelude.{ℕ, cond, List, [], ◌∷◌, ◌++◌, codes, decimal, ◌==◌}
 use Rattle.grammar.specs.declared.figures.Figures.{Figures}
 
 -- an alignment in base ten; `-` for none

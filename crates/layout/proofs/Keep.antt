@@ -1,8 +1,8 @@
 -- What a sheet keeps has one proof, holds of an empty sheet, and goes on with one row more.
-use Rattle.std.proofs.Common.{◌≡◌, ℕ, ◌+◌, ◌<◌, ◌≤◌, Bool, true, false, eqb, List, [], ◌∷◌, ◌++◌, length, get_or, drop, sym, refl, ap, ◌∙◌, subst, add-zero, arith}
+use Rattle.std.proofs.Common.{◌≡◌, ℕ, ◌+◌, ◌<◌, Bool, true, false, eqb, List, [], ◌∷◌, ◌++◌, length, get_or, drop, sym, refl, ap, ◌∙◌, subst, add-zero, arith}
 use mathlib.Core.List.{List-discrete}
-use mathlib.Core.HLevel.{Discrete, Π_prop, ×_prop, ⊥_prop, hedberg, is_prop→PathP}
-use mathlib.Core.Logic.{∥∥₁_elim, ∥∥₁_prop}
+use mathlib.Core.HLevel.{Discrete, Π_prop, ×_prop, ⊥_prop, hedberg}
+use mathlib.Core.Logic.{∥∥₁_elim}
 use native.Mathlib.Bridge.{le_prop}
 use native.Mathlib.Decide.{ℕ_discrete, dec_lt}
 use Rattle.std.proofs.lemmas.List.{length_push, get_or_push, get_or_append_left, map_push, get_or_past, length-map}

@@ -1,5 +1,5 @@
 -- Field rows, as the tails of field lists that they hold.
-use Rattle.std.specs.Prelude.{◌≡◌, ℕ, zero, suc, ◌+◌, ◌<◌, ◌≤◌, Bool, List, [], ◌∷◌, ◌++◌, length, get_or, ◌≢◌, nat_eq, slice_index_or}
+use Rattle.std.specs.Prelude.{◌≡◌, ℕ, zero, suc, ◌<◌, ◌≤◌, Bool, List, [], ◌∷◌, ◌++◌, length, get_or, ◌≢◌, nat_eq, slice_index_or}
 use Rattle.grammar.specs.Lists.{same_list}
 use Rattle.book.specs.Rows.{tail_key}
 use Rattle.layout.specs.declared.row.FieldRow.{FieldRow}

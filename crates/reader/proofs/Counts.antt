@@ -1,9 +1,9 @@
 -- How many types a text has.
-use Rattle.std.proofs.Common.{◌≡◌, ℕ, ◌+◌, ◌<◌, ◌≤◌, List, [], ◌∷◌, ◌++◌, length, drop, sym, refl, ap, ◌∙◌, subst, append-nil, arith, length-append, length-drop}
-use Rattle.grammar.specs.Shape.{Text, Shape, Shapes, nil, more, printed, printed_all}
-use Rattle.grammar.specs.Depth.{structure_depth, array_depth, structure_depths, array_depths}
+use Rattle.std.proofs.Common.{◌≡◌, ℕ, ◌+◌, ◌<◌, ◌≤◌, [], ◌∷◌, length, drop, sym, ap, ◌∙◌, arith, length-append, length-drop}
+use Rattle.grammar.specs.Shape.{Text, Shapes, nil, more, printed, printed_all}
+use Rattle.grammar.specs.Depth.{structure_depths, array_depths}
 use Rattle.grammar.specs.Valid.{deepest_structures, deepest_arrays}
-use Rattle.grammar.specs.Scan.{Frame, one, run, top}
+use Rattle.grammar.specs.Scan.{one, run, top}
 use Rattle.grammar.proofs.ScanComplete.{complete}
 use Rattle.grammar.proofs.Prefix.{left, left_none}
 use Rattle.grammar.proofs.ReadBack.{long}

@@ -1,14 +1,14 @@
 -- How the parts of a reading join, over plain lists.
-use Rattle.std.proofs.Common.{◌≡◌, ℕ, suc, ◌+◌, ◌-◌, ◌<◌, ◌≤◌, Bool, true, false, ◌⊎◌, List, [], ◌∷◌, ◌++◌, length, get_or, take, drop, Ok, Err, Result, sym, refl, ap, ◌∙◌, subst, inl, inr, arith, drop_of_length-le, drop-cons}
+use Rattle.std.proofs.Common.{◌≡◌, ℕ, suc, ◌+◌, ◌-◌, ◌<◌, ◌≤◌, Bool, true, false, List, [], ◌∷◌, ◌++◌, length, get_or, drop, Ok, Err, Result, sym, refl, ap, ◌∙◌, subst, arith, drop_of_length-le, drop-cons}
 use Rattle.grammar.specs.declared.error.Cause.{Cause}
 use Rattle.grammar.specs.declared.error.Cause.TheVariants.{Ended, TooDeep, Unexpected}
 use Rattle.grammar.specs.declared.error.Fault.{Fault}
 use Rattle.grammar.specs.Shape.{Text, is_basic}
-use Rattle.grammar.specs.Scan.{Frame, one, others, element, close, types, Step, go, stop, Verdict, good, bad, begin, step, final, run}
+use Rattle.grammar.specs.Scan.{Frame, one, others, element, close, types, stop, good, bad, begin, step, run}
 use Rattle.reader.specs.Parsing.{Passed, Failed, Opened, Parsed, CountedOr}
 use Rattle.reader.specs.Bytes.{Ate, Stayed, Eaten}
 use Rattle.grammar.specs.Valid.{FaultOf}
-use Rattle.grammar.proofs.ScanSteps.{run_next, run_stop, run_same, run_good, run_one, run_others, run_element, run_close, run_final, begin_basic, begin_maybe, begin_array, begin_structure, begin_array_deep, begin_structure_deep, begin_unexpected, step_one, step_types, step_others, step_others_end, step_element, step_element_pair, step_close, step_close_not}
+use Rattle.grammar.proofs.ScanSteps.{run_next, run_stop, run_same, run_good, run_one, run_others, run_element, begin_basic, begin_maybe, begin_array, begin_structure, begin_array_deep, begin_structure_deep, begin_unexpected, step_one, step_types, step_others, step_others_end, step_element, step_element_pair, step_close, step_close_not}
 
 -- what `take` says where there is a byte
 abbrev pub Byte : Text → ℕ → ℕ → ℕ → Type 0

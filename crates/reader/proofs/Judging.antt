@@ -1,9 +1,8 @@
 -- What is said of a whole text.
-use Rattle.std.proofs.Common.{◌≡◌, ℕ, ◌<◌, ◌≤◌, List, [], ◌∷◌, length, Ok, Err, Result, sym, refl, ap, ◌∙◌, subst, ap₂, arith}
+use Rattle.std.proofs.Common.{◌≡◌, ℕ, ◌<◌, ◌≤◌, List, [], ◌∷◌, length, Ok, Err, refl, ap, subst, ap₂, arith}
 use Rattle.grammar.specs.declared.error.Cause.{Cause}
 use Rattle.grammar.specs.declared.error.Cause.TheVariants.{Ended, TooDeep, Unexpected}
 use Rattle.grammar.specs.declared.error.Fault.{Fault}
-use Rattle.grammar.specs.declared.error.Refusal.{Refusal}
 use Rattle.grammar.specs.declared.error.Refusal.TheVariants.{TextTooLong, Invalid}
 use Rattle.grammar.specs.Shape.{Text}
 use Rattle.grammar.specs.Valid.{longest_text, Valid, FaultOf}

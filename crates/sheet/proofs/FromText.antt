@@ -1,28 +1,24 @@
 -- A text's call on a sheet is the plain book's.
-use Rattle.std.proofs.Common.{◌≡◌, ℕ, ◌+◌, ◌<◌, ◌≤◌, ◌⊎◌, List, [], ◌∷◌, length, Ok, Err, sym, refl, ap, ◌∙◌, subst, ap₂, inl, inr, arith}
+use Rattle.std.proofs.Common.{◌≡◌, ℕ, ◌+◌, ◌<◌, ◌≤◌, ◌⊎◌, List, [], length, Ok, Err, sym, refl, ap, ◌∙◌, subst, ap₂, inl, inr, arith}
 use mathlib.Core.Option.{Option, none, some}
 use Rattle.std.proofs.lemmas.Bool.{cases_lt}
 use Rattle.grammar.specs.declared.error.Fault.{Fault}
 use Rattle.grammar.specs.declared.error.Refusal.{Refusal}
 use Rattle.grammar.specs.Lists.{Distinct}
 use Rattle.grammar.specs.Shape.{Text}
-use Rattle.grammar.specs.Valid.{longest_text, Valid}
+use Rattle.grammar.specs.Valid.{longest_text}
 use Rattle.grammar.specs.Scan.{fault}
 use Rattle.grammar.specs.Refusals.{Outcome, accepted, refused, outcome}
 use Rattle.grammar.proofs.ScanExact.{scans, scans_valid}
 use Rattle.reader.specs.Parsing.{count_of, Counted}
 use Rattle.reader.specs.Judged.{Judged}
-use Rattle.book.specs.Plain.{from_bytes, Limits, longest_form, known, tails_of, call}
+use Rattle.book.specs.Plain.{from_bytes, Limits, longest_form, known, call}
 use Rattle.book.specs.Nodes.{texts_of, shapes_from}
 use Rattle.book.proofs.Agree.{good_sound}
-use Rattle.book.proofs.Backed.{Backed}
 use Rattle.book.proofs.Histories.{known_distinct}
 use Rattle.building.specs.Building.{Fits, BuildsWhole}
 use Rattle.building.proofs.Whole.{read_long, read_faulty, read_wide, read_built}
-use Rattle.rows.specs.declared.RowList.{RowList}
 use Rattle.sheet.specs.declared.sheet.Sheet.{Sheet}
-use Rattle.layout.specs.declared.row.TypeRow.{TypeRow}
-use Rattle.layout.specs.declared.row.FieldRow.{FieldRow}
 use Rattle.layout.specs.Kept.{nodes_of}
 use Rattle.layout.specs.Grown.{Grew, Unchanged, Was}
 use Rattle.layout.specs.Called.{book_of, limits_of, Called}

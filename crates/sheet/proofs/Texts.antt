@@ -2,7 +2,6 @@
 use Rattle.std.proofs.Common.{◌≡◌, ℕ, ◌<◌, List, [], map, length, sym, ap, ◌∙◌, subst, arith}
 use Rattle.std.proofs.lemmas.List.{get_or_default, get_or-map, length-map, length-take-le, same_lists}
 use Rattle.book.specs.Plain.{Answer, Call, array, maybe, dict, structure}
-use Rattle.book.specs.Plain
 use Rattle.book.specs.Nodes.{Node, shapes_from, texts_of, tails_of}
 use Rattle.book.specs.Makers.{array_call, maybe_call, dict_call, structure_call}
 use Rattle.book.specs.Rows.{node_key, tail_key}
@@ -16,7 +15,7 @@ use Rattle.book.proofs.Questions.{texts_count}
 use Rattle.book.proofs.MakersTold.{Told, array_told, maybe_told, dict_told, structure_told}
 use Rattle.sheet.specs.declared.sheet.Sheet.{Sheet}
 use Rattle.layout.specs.Tails.{blank_field, field_key}
-use Rattle.layout.specs.Kept.{Kept, nodes, nodes_of, tails_in, types_in, fields_in, node_of, type_key, blank_type}
+use Rattle.layout.specs.Kept.{Kept, nodes_of, tails_in, types_in, fields_in, node_of, type_key, blank_type}
 use Rattle.layout.specs.Made.{Made, with_tails}
 use Rattle.layout.specs.Called.{book_of, limits_of, Stands, Called}
 use Rattle.layout.proofs.Keep.{out}

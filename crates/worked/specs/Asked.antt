@@ -4,7 +4,7 @@ use Rattle.grammar.specs.Shape.{Text}
 use Rattle.grammar.specs.Refusals.{Outcome, accepted, refused}
 use Rattle.book.specs.Plain.{Answer, Call, from_bytes, Limits, opened, text_of, tails_of, call, run}
 use Rattle.book.specs.Rows.{type_key_of, field_key_of}
-use Rattle.book.specs.Questions.{Format, dbus, gvariant, string_length_of, depths_of, alignment_of, fixed_of, maybe_of}
+use Rattle.book.specs.Questions.{dbus, gvariant, string_length_of, depths_of, alignment_of, fixed_of, maybe_of}
 use Rattle.forms.specs.Forms.{bare_text, byte_of}
 use Rattle.printing.specs.Forms.{eq_text_of}
 

@@ -1,5 +1,5 @@
 use Rattle.std.proofs.Common.{◌≡◌, length}
-use Rattle.shapes.proofs.main.Given as goal
+use Rattle.whole_lines.proofs.main.Given as goal
 
 abbrev pub invariant-loop-line : goal.invariant-loop-line
 invariant-loop-line l = length l.form ≡ 65535

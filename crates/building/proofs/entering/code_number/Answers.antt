@@ -1,4 +1,4 @@
-use Rattle.std.proofs.Common.{arith, below_none, below_more}
+use Rattle.std.proofs.Common.{arith, below_more}
 use Rattle.building.proofs.Codes.{code_at, no_code}
 use Rattle.building.proofs.entering.code_number.Goals as goal
 

@@ -1,4 +1,4 @@
-use Rattle.std.proofs.Common.{sym, refl, ◌∙◌, arith}
+use Rattle.std.proofs.Common.{refl, ◌∙◌, arith}
 use Rattle.reader.proofs.Joins.{ate_in, stayed_in}
 use Rattle.building.proofs.Views.{behind_none, behind_more, skipped}
 use Rattle.building.proofs.entering.skip_maybes.Goals as goal

@@ -1,4 +1,4 @@
-use Rattle.std.proofs.Common.{◌≡◌, ℕ, ◌-◌, ◌≤◌, List, ◌++◌, length, drop}
+use Rattle.std.proofs.Common.{◌≡◌, ◌-◌, ◌≤◌, ◌++◌, length, drop}
 use Rattle.grammar.specs.Shape.{Text, Shape, printed}
 use Rattle.building.specs.Building.{Behind}
 use Rattle.building.proofs.entering.skip_maybes.Given as goal

@@ -1,4 +1,4 @@
-use Rattle.std.proofs.Common.{Ok, Err, refl, ap, ◌∙◌, arith}
+use Rattle.std.proofs.Common.{Err, refl, ap, ◌∙◌, arith}
 use Rattle.std.proofs.lemmas.Result.{err_from_is_err_and}
 use Rattle.building.proofs.InRow.{wrap_start, wrap_on, wrap_stopped, wrap_end}
 use Rattle.building.proofs.Shifts.{goes_still, goes_on, says_at}

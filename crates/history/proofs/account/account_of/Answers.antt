@@ -1,4 +1,4 @@
-use Rattle.std.proofs.Common.{◌≡◌, ℕ, List, ◌++◌, take, drop, sym, refl, ap, ◌∙◌, append-nil}
+use Rattle.std.proofs.Common.{◌++◌, take, sym, refl, ap, ◌∙◌, append-nil}
 use Rattle.std.proofs.lemmas.Result.{err_from_is_err_and}
 use Rattle.book.specs.Plain.{text_of}
 use Rattle.sheet.specs.declared.sheet.Sheet.{Sheet}

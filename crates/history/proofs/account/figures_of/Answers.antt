@@ -1,4 +1,4 @@
-use Rattle.std.proofs.Common.{◌≡◌, ℕ, refl, ap, ◌∙◌}
+use Rattle.std.proofs.Common.{ℕ, refl, ap, ◌∙◌}
 use Rattle.std.proofs.lemmas.Result.{err_from_is_err_and}
 use Rattle.book.specs.Questions.{dbus, gvariant}
 use Rattle.history.proofs.Asking.{answered, refused_here, alignment_here, all_figures_are, same_figures, figures_here}

@@ -1,11 +1,9 @@
-use Rattle.std.proofs.Common.{◌≡◌, ℕ, length, sym, ap, ◌∙◌, subst}
+use Rattle.std.proofs.Common.{length, sym, ap, ◌∙◌}
 use Rattle.std.proofs.lemmas.Result.{err_from_is_err_and}
 use Rattle.grammar.specs.Figures.{text_figures}
 use Rattle.grammar.specs.declared.figures.Figures.{Figures}
-use Rattle.grammar.specs.Refusals.{accepted}
-use Rattle.book.specs.Plain.{from_bytes, text_of}
+use Rattle.book.specs.Plain.{text_of}
 use Rattle.sheet.specs.declared.sheet.Sheet.{Sheet}
-use Rattle.layout.specs.Called.{book_of, Called}
 use Rattle.forms.specs.Forms.{book_in}
 use Rattle.intake.proofs.Forming.{known_after, known_as, figures_are, never_unknown, text_long, book_shown, called_as}
 use Rattle.intake.proofs.filing.file.Goals as goal

@@ -1,4 +1,4 @@
-use Rattle.std.proofs.Common.{◌≡◌, ◌≤◌, length, arith}
+use Rattle.std.proofs.Common.{arith}
 use Rattle.book.specs.Plain.{text_of}
 use Rattle.forms.specs.Forms.{book_in}
 use Rattle.intake.proofs.Forming.{never_short, count_is, front}

@@ -1,7 +1,7 @@
 use Rattle.std.proofs.Common.{[], ◌∷◌, length, sym, ap, ◌∙◌, arith}
 use Rattle.std.proofs.lemmas.Result.{err_from_is_err_and}
-use Rattle.grammar.specs.Scan.{one, others, close}
-use Rattle.reader.proofs.Joins.{opened, byte_in, behind_maybe, ended, then_failed_all, here, passed_in, failed_in, passed_at, failed_at, parsed_at, entered_in, parsed_in, ate_in, stayed_in, join, then_passed, then_last, then_failed, then_parsed, broken, others_one, others_end, type_pair, type_element, type_structure, type_array_deep, type_structure_deep, type_unexpected, type_basic}
+use Rattle.grammar.specs.Scan.{one}
+use Rattle.reader.proofs.Joins.{opened, byte_in, behind_maybe, ended, here, passed_in, failed_in, passed_at, failed_at, parsed_at, entered_in, parsed_in, ate_in, stayed_in, join, then_passed, then_last, then_failed, then_parsed, broken, others_one, others_end, type_pair, type_element, type_structure, type_array_deep, type_structure_deep, type_unexpected, type_basic}
 use Rattle.grammar.proofs.ScanSteps.{run_one}
 use Rattle.reader.proofs.reading.+many_parse_signature.Goals as goal
 

@@ -1,4 +1,4 @@
-use Rattle.std.proofs.Common.{length, sym, refl, ap, ◌∙◌, arith}
+use Rattle.std.proofs.Common.{◌∙◌, arith}
 use Rattle.std.proofs.lemmas.Result.{err_from_is_err_and}
 use Rattle.grammar.proofs.ScanExact.{good_valid, is_fault}
 use Rattle.reader.proofs.Joins.{top_passed, top_failed, top_ended, passed_in, failed_in, answered}

@@ -1,4 +1,4 @@
-use Rattle.std.proofs.Common.{◌≡◌, ℕ, ◌-◌, ◌≤◌, [], ◌∷◌, length, drop}
+use Rattle.std.proofs.Common.{◌≡◌, ◌-◌, ◌≤◌, length, drop}
 use Rattle.grammar.specs.Valid.{Valid}
 use Rattle.grammar.specs.Scan.{run, top}
 use Rattle.reader.proofs.Counts.{Row}

@@ -1,4 +1,4 @@
-use Rattle.std.proofs.Common.{◌≡◌, ◌-◌}
+use Rattle.std.proofs.Common.{◌≡◌}
 use Rattle.rows.specs.Found.{Absent}
 use Rattle.rows.proofs.RowList.find.Given as goal
 

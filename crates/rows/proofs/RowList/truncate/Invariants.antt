@@ -1,4 +1,4 @@
-use Rattle.std.proofs.Common.{◌≡◌, ℕ, ◌-◌, ◌<◌, ◌≤◌, min, length, get_or}
+use Rattle.std.proofs.Common.{◌≡◌, ℕ, ◌<◌, ◌≤◌, min, length, get_or}
 use Rattle.rows.proofs.RowList.truncate.Given as goal
 
 abbrev pub invariant-loop-self : goal.invariant-loop-self

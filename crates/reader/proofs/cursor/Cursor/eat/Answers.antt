@@ -1,4 +1,4 @@
-use Rattle.std.proofs.Common.{◌≡◌, ℕ, List, [], ◌∷◌, length, sym, refl, ap, ◌∙◌, arith, length-drop}
+use Rattle.std.proofs.Common.{◌≡◌, ℕ, List, ◌∷◌, length, sym, refl, ap, ◌∙◌, arith, length-drop}
 use Rattle.reader.proofs.cursor.Cursor.eat.Goals as goal
 
 same_head : (b d : ℕ) (r s : List ℕ) → b ∷ r ≡ d ∷ s → b ≡ d

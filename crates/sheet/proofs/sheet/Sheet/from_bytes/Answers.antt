@@ -1,4 +1,4 @@
-use Rattle.std.proofs.Common.{◌≡◌, ◌≤◌, ◌⊎◌, length, refl, ap, ◌∙◌, inl, inr}
+use Rattle.std.proofs.Common.{◌≤◌, ◌⊎◌, length, inl, inr}
 use Rattle.std.proofs.lemmas.Result.{err_from_is_err_and}
 use Rattle.layout.proofs.Undo.{unchanged_refl, grew_same}
 use Rattle.sheet.proofs.FromText.{refused_called, wide_called, built_called, undone_called, was}
