@@ -22,8 +22,9 @@ use Rattle.sheet.specs.declared.sheet.Sheet.{Sheet}
 use Rattle.layout.specs.Kept.{nodes_of}
 use Rattle.layout.specs.Grown.{Grew, Unchanged, Was}
 use Rattle.layout.specs.Called.{book_of, limits_of, Called}
-use Rattle.layout.proofs.Undo.{unchanged_refl, limits_grew, nodes_same}
+use Rattle.layout.proofs.Undo.{unchanged_refl, nodes_same}
 use Rattle.sheet.proofs.Texts.{good_book, stands}
+use Rattle.layout.proofs.Undo.{limits_grew}
 
 -- the book of a sheet has room, and no text twice
 pub fits_in : (s : Sheet) → Fits (limits_of s.types s.fields) (book_of s.types s.fields)

@@ -5,3 +5,4 @@ pub mod Summed
 pub mod Shown
 pub mod Texts
 pub mod FromText
+pub mod OnSheet

@@ -1,11 +1,13 @@
 // A sheet of signatures: equal shapes have one number, on rows that the caller lends.
 #![tactic(auto)]
 
+mod building;
 pub mod child;
 pub mod comparison;
 pub mod fields;
 pub mod figures;
 pub mod lay;
+pub mod maker;
 pub mod makers;
 pub mod reading;
 pub mod row;

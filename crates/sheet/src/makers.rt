@@ -10,11 +10,12 @@ ghost use Rattle.book.specs.Plain.{array as array_of, maybe as maybe_of, dict as
 ghost use Rattle.layout.specs.Figured.{Short, Long};
 ghost use Rattle.layout.specs.Structured.{AllParts, Structured};
 
+use crate::figures::{array_figures, dict_figures, structure_figures};
 use crate::lay::{all_known, file_structure, no_unit};
 use crate::sheet::Sheet;
 use grammar::error::Refusal;
 use grammar::figures::Figures;
-use layout::figures::{array_figures, dict_figures, maybe_figures, structure_figures, with_field};
+use layout::figures::{maybe_figures, with_field};
 use layout::row::{ARRAY, DICT, MAYBE, TypeRow};
 
 // The figures of no fields.

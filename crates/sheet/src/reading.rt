@@ -1,40 +1,51 @@
 // A text's number on a sheet.
+ghost use Rattle.std.specs.Prelude.{◌≤◌, length};
 ghost use Rattle.grammar.specs.Refusals.{outcome};
 ghost use Rattle.book.specs.Plain.{from_bytes as from_bytes_of};
+ghost use Rattle.building.specs.Building.{BuildsWhole};
 ghost use Rattle.layout.specs.Grown.{Grew};
 ghost use Rattle.layout.specs.Called.{book_of, limits_of, Called};
 
+use crate::building::whole;
 use crate::sheet::Sheet;
-use building::entering::build;
-use building::maker::Maker;
 use grammar::error::Refusal;
 use reader::parse;
 
 // The most bytes that a text of several types may have, since its structure has a pair of parentheses more.
 const LONGEST_ROW: usize = 65_533;
 
-// The sheet as a maker, with which the types of a text are entered.
-impl<'a> Maker for Sheet<'a> {
-    ghost book = { λ s. book_of s.types s.fields };
+// How many bytes a text may have for the small stack of pending fields.
+const FEW: usize = 256;
 
-    ghost limits = { λ s. limits_of s.types s.fields };
+// A text of at most `FEW` bytes.
+fn short(sheet: &mut Sheet, text: &[u8]) -> Result<u16, Refusal>
+    requires room { length text.now ≤ 256 }
+    ensures grew { Grew sheet.old.types sheet.old.fields sheet.new.types sheet.new.fields }
+    ensures builds { BuildsWhole (limits_of sheet.old.types sheet.old.fields) text.now (book_of sheet.old.types sheet.old.fields) result (book_of sheet.new.types sheet.new.fields) }
+{
+    let mut pending = [0u16; 256];
+    whole(sheet, text, &mut pending)
+}
 
-    ghost grew = { λ s t. Grew s.types s.fields t.types t.fields };
+fn long(sheet: &mut Sheet, text: &[u8]) -> Result<u16, Refusal>
+    requires room { length text.now ≤ 65535 }
+    ensures grew { Grew sheet.old.types sheet.old.fields sheet.new.types sheet.new.fields }
+    ensures builds { BuildsWhole (limits_of sheet.old.types sheet.old.fields) text.now (book_of sheet.old.types sheet.old.fields) result (book_of sheet.new.types sheet.new.fields) }
+{
+    let mut pending = [0u16; 65535];
+    whole(sheet, text, &mut pending)
+}
 
-    fn make_array(&mut self, n: u16) -> Result<u16, Refusal> {
-        self.array(n)
-    }
-
-    fn make_maybe(&mut self, n: u16) -> Result<u16, Refusal> {
-        self.maybe(n)
-    }
-
-    fn make_dict(&mut self, k: u16, v: u16) -> Result<u16, Refusal> {
-        self.dict(k, v)
-    }
-
-    fn make_structure(&mut self, fs: &[u16]) -> Result<u16, Refusal> {
-        self.structure(fs)
+// The types of a valid text, on a stack of pending fields that suits its length.
+fn build(sheet: &mut Sheet, text: &[u8]) -> Result<u16, Refusal>
+    requires room { length text.now ≤ 65535 }
+    ensures grew { Grew sheet.old.types sheet.old.fields sheet.new.types sheet.new.fields }
+    ensures builds { BuildsWhole (limits_of sheet.old.types sheet.old.fields) text.now (book_of sheet.old.types sheet.old.fields) result (book_of sheet.new.types sheet.new.fields) }
+{
+    if text.len() <= FEW {
+        short(sheet, text)
+    } else {
+        long(sheet, text)
     }
 }
 

@@ -20,6 +20,9 @@ returns-then-n-eq0 c =
     let m = made_still s c.figures.new.self 4 (0 ∷ []) _ c.figures.ensures.same (array_unit s.types.cap (nodes_of s.types s.fields) c.args.n c.in_ok-part.ensures.figures.known c.if-n-eq0.true) in
     record { called = called_array s c.figures.new.self _ c.args.n m; made = m }
 
+pub array_figures-requires : goal.array_figures-requires
+array_figures-requires c = known_bounded _ _ _ c.in_ok-part.ensures.figures
+
 pub returns-in_err-figures : goal.returns-in_err-figures
 returns-in_err-figures c =
     let s = c.args.self.now in
@@ -32,7 +35,7 @@ pub enter-requires : goal.enter-requires
 enter-requires c =
     let s = c.args.self.now in
     record {
-      fit = fit_as s _ _ c.figures.ensures.same (fit_array s.types s.fields c.args.n _ _ c.in_ok-part.ensures.figures c.if-n-eq0.false (c.in_ok-figures.ensures (known_bounded _ _ _ c.in_ok-part.ensures.figures)));
+      fit = fit_as s _ _ c.figures.ensures.same (fit_array s.types s.fields c.args.n _ _ c.in_ok-part.ensures.figures c.if-n-eq0.false c.in_ok-figures.ensures);
       plain = refl;
     }
 
@@ -42,6 +45,6 @@ returns c =
     let t = c.enter.new.self in
     let m =
     made_as s c.figures.new.self t.types t.fields _ (array c.args.n) _ c.figures.ensures.same
-    (array_good s.types.cap (nodes_of s.types s.fields) c.args.n _ c.in_ok-part.ensures.figures c.if-n-eq0.false (c.in_ok-figures.ensures (known_bounded _ _ _ c.in_ok-part.ensures.figures)).short) c.enter.ensures
+    (array_good s.types.cap (nodes_of s.types s.fields) c.args.n _ c.in_ok-part.ensures.figures c.if-n-eq0.false c.in_ok-figures.ensures.short) c.enter.ensures
     in
     record { called = called_array s t _ c.args.n m; made = m }

@@ -47,6 +47,12 @@ returns-then-v-eq0 c =
     in
     record { called = called_dict s c.figures-2.new.self _ c.args.k c.args.v m; made = m }
 
+pub dict_figures-requires : goal.dict_figures-requires
+dict_figures-requires c = record {
+  key = known_bounded _ _ _ c.in_ok-key.ensures.figures;
+  value = known_bounded _ _ _ c.in_ok-value.ensures.figures;
+}
+
 pub returns-in_err-figures : goal.returns-in_err-figures
 returns-in_err-figures c =
     let s = c.args.self.now in
@@ -65,7 +71,7 @@ enter-requires c =
     let e = c.figures.ensures.same in
     record {
       fit = fit_as s _ _ (c.figures-2.ensures.same ∙ e)
-          (fit_dict s.types s.fields c.args.k c.args.v _ _ _ c.in_ok-key.ensures.figures (figured_as s _ c.args.v _ e c.in_ok-value.ensures.figures) c.if-k-eq0.false c.if-v-eq0.false (c.in_ok-figures.ensures (known_bounded _ _ _ c.in_ok-key.ensures.figures) (known_bounded _ _ _ c.in_ok-value.ensures.figures)));
+          (fit_dict s.types s.fields c.args.k c.args.v _ _ _ c.in_ok-key.ensures.figures (figured_as s _ c.args.v _ e c.in_ok-value.ensures.figures) c.if-k-eq0.false c.if-v-eq0.false c.in_ok-figures.ensures);
       plain = refl;
     }
 
@@ -76,6 +82,6 @@ returns c =
     let e = c.figures.ensures.same in
     let m =
     made_as s c.figures-2.new.self t.types t.fields _ (dict c.args.k c.args.v) _ (c.figures-2.ensures.same ∙ e)
-    (dict_good s.types.cap (nodes_of s.types s.fields) c.args.k c.args.v _ _ c.in_ok-key.ensures.figures (figured_as s _ c.args.v _ e c.in_ok-value.ensures.figures) c.if-k-eq0.false c.if-v-eq0.false (c.in_ok-figures.ensures (known_bounded _ _ _ c.in_ok-key.ensures.figures) (known_bounded _ _ _ c.in_ok-value.ensures.figures)).short) c.enter.ensures
+    (dict_good s.types.cap (nodes_of s.types s.fields) c.args.k c.args.v _ _ c.in_ok-key.ensures.figures (figured_as s _ c.args.v _ e c.in_ok-value.ensures.figures) c.if-k-eq0.false c.if-v-eq0.false c.in_ok-figures.ensures.short) c.enter.ensures
     in
     record { called = called_dict s t _ c.args.k c.args.v m; made = m }

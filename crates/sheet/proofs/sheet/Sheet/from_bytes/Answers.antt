@@ -1,6 +1,5 @@
 use Rattle.std.proofs.Common.{◌≤◌, ◌⊎◌, length, inl, inr}
 use Rattle.std.proofs.lemmas.Result.{err_from_is_err_and}
-use Rattle.layout.proofs.Undo.{unchanged_refl, grew_same}
 use Rattle.sheet.proofs.FromText.{refused_called, wide_called, built_called, undone_called, was}
 use Rattle.sheet.proofs.sheet.Sheet.from_bytes.Goals as goal
 use Rattle.sheet.proofs.sheet.Sheet.from_bytes.Goals.{else-types-gt1-via-then-types-gt1+else-text-gt-LONGEST_ROW, else-types-gt1-via-else-types-gt1}
@@ -21,7 +20,7 @@ returns-in-Ok c =
       | else-types-gt1-via-else-types-gt1 w ↦ inr w.if-types-gt1.false
     ] in
     let e = c.in_ok-types.ensures in
-    built_called c.args.self.now c.counts-type_rows.new.self c.build.new.maker _ _ c.counts-type_rows.ensures.same e.judged e.counted narrow (c.build.ensures.grew.grew c.counts-type_rows.new.self (grew_same _ _ _ _ (unchanged_refl _ _))) _ c.in-Ok.ensures.builds
+    built_called c.args.self.now c.counts-type_rows.new.self c.build.new.sheet _ _ c.counts-type_rows.ensures.same e.judged e.counted narrow c.build.ensures.grew _ c.in-Ok.ensures.builds
 
 pub returns-in-Err : goal.returns-in-Err
 returns-in-Err c =
@@ -32,7 +31,7 @@ returns-in-Err c =
     let e = c.in_ok-types.ensures in
     let s = c.args.self.now in
     let s₀ = c.counts-type_rows.new.self in
-    let s₁ = c.build.new.maker in
+    let s₁ = c.build.new.sheet in
     let n = c.counts-type_rows.ensures in
-    undone_called s s₀ s₁ _ _ n.same e.judged e.counted narrow (c.build.ensures.grew.grew c.counts-type_rows.new.self (grew_same _ _ _ _ (unchanged_refl _ _))) _ c.back.new.self c.in-Err.ensures.builds
-    (c.back.ensures _ _ (was s s₀ s₁ _ _ n.same e.judged e.counted narrow (c.build.ensures.grew.grew c.counts-type_rows.new.self (grew_same _ _ _ _ (unchanged_refl _ _))) _ _ n.types n.fields))
+    undone_called s s₀ s₁ _ _ n.same e.judged e.counted narrow c.build.ensures.grew _ c.back.new.self c.in-Err.ensures.builds
+    (c.back.ensures _ _ (was s s₀ s₁ _ _ n.same e.judged e.counted narrow c.build.ensures.grew _ _ n.types n.fields))

@@ -75,6 +75,12 @@ returns-in_err-fields c =
     in
     rw (p.1, p.2, u.refusal) (record { called = called_structure s c.field_figures.new.self _ fs m; made = m })
 
+pub structure_figures-requires : goal.structure_figures-requires
+structure_figures-requires c =
+    let s = c.args.self.now in
+    let f = fields_as s c.next_number.new.self c.args.fs.now _ c.next_number.ensures.same c.in_ok-fields.ensures.figures in
+    subst Bounded (sym f.figures) (fields_in_are (nodes_of s.types s.fields) c.args.fs.now)
+
 pub returns-in_err-figures : goal.returns-in_err-figures
 returns-in_err-figures c =
     let s = c.args.self.now in
@@ -97,7 +103,7 @@ structure_of-requires c =
     let fs = c.args.fs.now in
     let b = nodes_of s.types s.fields in
     let f = fields_as s c.next_number.new.self fs _ c.next_number.ensures.same c.in_ok-fields.ensures.figures in
-    let w = c.in_ok-figures.ensures (subst Bounded (sym f.figures) (fields_in_are (nodes_of s.types s.fields) fs)) in
+    let w = c.in_ok-figures.ensures in
     let parts = parts_from b fs (known_by b _ fs c.next_number.ensures.number c.in_ok-all_known.ensures) c.in_ok-no_unit.ensures in
     structured_as s _ fs _ (c.field_figures.ensures.same ∙ c.next_number.ensures.same)
     (record {
@@ -115,7 +121,7 @@ returns c =
     let fs = c.args.fs.now in
     let b = nodes_of s.types s.fields in
     let f = fields_as s c.next_number.new.self fs _ c.next_number.ensures.same c.in_ok-fields.ensures.figures in
-    let w = c.in_ok-figures.ensures (subst Bounded (sym f.figures) (fields_in_are (nodes_of s.types s.fields) fs)) in
+    let w = c.in_ok-figures.ensures in
     let known = known_by b _ fs c.next_number.ensures.number c.in_ok-all_known.ensures in
     let m =
     structure_as s c.field_figures.new.self t.types t.fields fs _ _ (c.field_figures.ensures.same ∙ c.next_number.ensures.same)

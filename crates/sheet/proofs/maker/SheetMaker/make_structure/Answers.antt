@@ -1,5 +1,5 @@
 use Rattle.layout.proofs.Undo.{grew_trans}
-use Rattle.sheet.proofs.reading.SheetMaker.make_structure.Goals as goal
+use Rattle.sheet.proofs.maker.SheetMaker.make_structure.Goals as goal
 
 pub returns : goal.returns
 returns c =
