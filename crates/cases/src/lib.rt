@@ -4,6 +4,6 @@
 #[cfg(test)]
 mod filing;
 #[cfg(test)]
-mod printing;
+mod printed;
 #[cfg(test)]
 mod reading;

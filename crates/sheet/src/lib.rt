@@ -1,9 +1,9 @@
 // A sheet of signatures: equal shapes have one number, on rows that the caller lends.
 #![tactic(auto)]
 
-mod building;
 pub mod child;
 pub mod comparison;
+mod entering;
 pub mod fields;
 pub mod figures;
 pub mod lay;

@@ -6,7 +6,7 @@ ghost use Rattle.building.specs.Building.{BuildsWhole};
 ghost use Rattle.layout.specs.Grown.{Grew};
 ghost use Rattle.layout.specs.Called.{book_of, limits_of, Called};
 
-use crate::building::whole;
+use crate::entering::whole;
 use crate::sheet::Sheet;
 use grammar::error::Refusal;
 use reader::parse;

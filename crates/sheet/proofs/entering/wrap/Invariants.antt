@@ -1,7 +1,7 @@
 use Rattle.building.proofs.InRow.{Wrapping}
 use Rattle.layout.specs.Grown.{Grew}
 use Rattle.layout.specs.Called.{book_of, limits_of}
-use Rattle.sheet.proofs.building.wrap.Given as goal
+use Rattle.sheet.proofs.entering.wrap.Given as goal
 
 abbrev pub invariant-loop-i : goal.invariant-loop-i
 invariant-loop-i l =

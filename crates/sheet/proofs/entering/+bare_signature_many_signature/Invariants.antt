@@ -2,7 +2,7 @@ use Rattle.std.proofs.Common.{◌≡◌, ◌+◌, ◌-◌, ◌*◌, ◌≤◌, l
 use Rattle.building.proofs.InRow.{Fielding}
 use Rattle.layout.specs.Grown.{Grew}
 use Rattle.layout.specs.Called.{book_of}
-use Rattle.sheet.proofs.building.+bare_signature_many_signature.Given as goal
+use Rattle.sheet.proofs.entering.+bare_signature_many_signature.Given as goal
 
 abbrev pub decreases-many : goal.decreases-many
 decreases-many l = 3 * (length l.cursor.now.text.now - l.cursor.now.at) + 2

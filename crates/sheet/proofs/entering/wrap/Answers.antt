@@ -4,7 +4,7 @@ use Rattle.building.proofs.InRow.{wrap_start, wrap_on, wrap_stopped, wrap_end}
 use Rattle.layout.proofs.Undo.{grew_same, unchanged_refl, grew_trans}
 use Rattle.layout.proofs.Undo.{limits_grew}
 use Rattle.sheet.proofs.OnSheet.{says}
-use Rattle.sheet.proofs.building.wrap.Goals as goal
+use Rattle.sheet.proofs.entering.wrap.Goals as goal
 
 pub loop-i-init : goal.loop-i-init
 loop-i-init c = (grew_same _ _ _ _ (unchanged_refl _ _), wrap_start _ _ _ _ _ refl)

@@ -1,7 +1,7 @@
 use Rattle.std.proofs.Common.{refl, ◌∙◌, arith}
 use Rattle.reader.proofs.Joins.{ate_in, stayed_in}
 use Rattle.building.proofs.Views.{behind_none, behind_more, skipped}
-use Rattle.sheet.proofs.building.skip_maybes.Goals as goal
+use Rattle.sheet.proofs.entering.skip_maybes.Goals as goal
 
 pub loop-init : goal.loop-init
 loop-init c = (refl, omega arith, λ t w e. behind_none _ _ _ t w (omega arith) e)

@@ -5,7 +5,7 @@ use Rattle.building.proofs.InRow.{pushed, whole_start, whole_next, whole_stopped
 use Rattle.layout.proofs.Undo.{grew_same, unchanged_refl, grew_trans}
 use Rattle.layout.proofs.Undo.{limits_grew}
 use Rattle.sheet.proofs.OnSheet.{says, builds_at}
-use Rattle.sheet.proofs.building.whole.Goals as goal
+use Rattle.sheet.proofs.entering.whole.Goals as goal
 
 pub loop-cursor-init : goal.loop-cursor-init
 loop-cursor-init c =

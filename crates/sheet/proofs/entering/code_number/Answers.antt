@@ -1,6 +1,6 @@
 use Rattle.std.proofs.Common.{arith, below_more}
 use Rattle.building.proofs.Codes.{code_at, no_code}
-use Rattle.sheet.proofs.building.code_number.Goals as goal
+use Rattle.sheet.proofs.entering.code_number.Goals as goal
 
 pub loop-i-preserved : goal.loop-i-preserved
 loop-i-preserved c = below_more _ _ c.loop-i.invariant c.if-c-b.false

@@ -2,7 +2,7 @@ use Rattle.std.proofs.Common.{◌≡◌, ◌+◌, ◌-◌, ◌≤◌, length, ta
 use Rattle.building.proofs.InRow.{Wholing}
 use Rattle.layout.specs.Grown.{Grew}
 use Rattle.layout.specs.Called.{book_of}
-use Rattle.sheet.proofs.building.whole.Given as goal
+use Rattle.sheet.proofs.entering.whole.Given as goal
 
 abbrev pub invariant-loop-cursor : goal.invariant-loop-cursor
 invariant-loop-cursor l =

@@ -7,7 +7,7 @@ use Rattle.building.proofs.InRow.{row_start, none_yet, pushed, sliced, below, be
 use Rattle.layout.proofs.Undo.{grew_same, unchanged_refl, grew_trans}
 use Rattle.layout.proofs.Undo.{limits_grew}
 use Rattle.sheet.proofs.OnSheet.{says, builds_at, bare_at, fields_at, wraps_at, on_ok, on_err, ok_before}
-use Rattle.sheet.proofs.building.+bare_signature_many_signature.Goals as goal
+use Rattle.sheet.proofs.entering.+bare_signature_many_signature.Goals as goal
 
 pub bare_signature-returns-in_default : goal.bare_signature-returns-in_default
 bare_signature-returns-in_default t c = record {

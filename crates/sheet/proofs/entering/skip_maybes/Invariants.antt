@@ -1,7 +1,7 @@
 use Rattle.std.proofs.Common.{◌≡◌, ◌-◌, ◌≤◌, ◌++◌, length, drop}
 use Rattle.grammar.specs.Shape.{Text, Shape, printed}
 use Rattle.building.specs.Building.{Behind}
-use Rattle.sheet.proofs.building.skip_maybes.Given as goal
+use Rattle.sheet.proofs.entering.skip_maybes.Given as goal
 
 abbrev pub invariant-loop : goal.invariant-loop
 invariant-loop l =
