@@ -7,7 +7,6 @@ mod entering;
 pub mod fields;
 pub mod figures;
 pub mod lay;
-pub mod maker;
 pub mod makers;
 pub mod reading;
 pub mod row;
