@@ -4,7 +4,7 @@
 usage: tools/peers/ask.py SRC OUT [--program PROGRAM] [--write] [--short]
 
 SRC is the crate's directory src (see crate.sh), OUT a directory outside of the repository to build in. With --program,
-PROGRAM (target/bin/shapes) is run on all texts, in parts that fit one sheet. With --write, sample.txt, answers.txt and
+PROGRAM (crates/whole_lines/out/whole_lines) is run on all texts, in parts that fit one sheet. With --write, sample.txt, answers.txt and
 expected.txt are made anew in this directory. With --short, all texts of at most 5 bytes over `ysva(){}m` are asked about
 instead, and no sample is made. Exit 1 if anything disagrees.
 """
@@ -18,7 +18,7 @@ sys.dont_write_bytecode = True
 import draw
 import model
 
-# How a line of `shapes` writes what it has no value for, and where it puts an empty form.
+# How a line of `whole_lines` writes what it has no value for, and where it puts an empty form.
 NO_ALIGNMENT = "-"
 LINE = "ok {number} {length} {dbus} {gvariant} {fixed} {form}"
 

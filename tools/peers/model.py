@@ -126,7 +126,7 @@ class Sheet:
         self.tails = set()  # the text of each tail
 
     def file(self, text):
-        """What `shapes` says of this text before the figures."""
+        """What `whole_lines` says of this text before the figures."""
         if len(text) > 65535:
             return "no 1"
         wrong = fault(text)

@@ -31,7 +31,7 @@ const FIRST: [(u16, u8, u8, bool); 15] = [
 ];
 
 // The figures of nothing.
-pub const BLANK: Figures = Figures {
+pub const NO_FIGURES: Figures = Figures {
     length: 0,
     structures: 0,
     arrays: 0,
@@ -46,7 +46,7 @@ pub fn first_figures(n: usize) -> Figures
     ensures { result ≡ slice_index_or first_figures n blank_figures }
 {
     if n >= FIRST.len() {
-        return BLANK;
+        return NO_FIGURES;
     }
     let (length, dbus, gvariant, fixed) = FIRST[n];
     Figures {

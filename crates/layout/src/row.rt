@@ -1,7 +1,6 @@
 // The rows of a sheet.
 ghost use Rattle.std.specs.Prelude.{[], ◌∷◌};
 
-use crate::figures;
 use grammar::figures::Figures;
 use rows::Row;
 
@@ -38,7 +37,15 @@ impl TypeRow {
         kind: 0,
         first: 0,
         second: 0,
-        figures: figures::BLANK,
+        figures: Figures {
+            length: 0,
+            structures: 0,
+            arrays: 0,
+            dbus: 0,
+            gvariant: 0,
+            fixed: false,
+            maybe: false,
+        },
     };
 }
 
