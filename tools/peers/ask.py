@@ -4,9 +4,9 @@
 usage: tools/peers/ask.py SRC OUT [--program PROGRAM] [--write] [--short]
 
 SRC is the crate's directory src (see crate.sh), OUT a directory outside of the repository to build in. With --program,
-PROGRAM (crates/whole_lines/out/whole_lines) is run on all texts, in parts that fit one sheet. With --write, sample.txt, answers.txt and
-expected.txt are made anew in this directory. With --short, all texts of at most 5 bytes over `ysva(){}m` are asked about
-instead, and no sample is made. Exit 1 if anything disagrees.
+PROGRAM (crates/whole_lines/out/whole_lines) is run on all texts, in parts that fit one sheet. With --write, sample.txt,
+answers.txt and expected.txt are made anew in this directory. With --short, all texts of at most 5 bytes over `ysva(){}m` are
+asked about instead, and no sample is made. Exit 1 if anything disagrees.
 """
 import os
 import subprocess

@@ -1,4 +1,4 @@
-// Files each line of standard input on a sheet, as `shapes` does, and reads each printed form again: it has to give the
+// Files each line of standard input on a sheet, as `whole_lines` does, and reads each printed form again: it has to give the
 // same number, or be too deep to be read. A form that does neither is named, and so are rows that it added.
 #![tactic(auto)]
 
