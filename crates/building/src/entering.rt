@@ -1,12 +1,10 @@
 // The types of a valid text, entered with a maker: a list of types and a type call for each other, as in reading.
-//
-// The numbers of fields that wait for their structure lie on a stack that all levels share, `pending`, from `top` on; a
-// text needs no more places there than it has bytes.
-ghost use Rattle.std.specs.Prelude.{◌≡◌, ℕ, ◌+◌, ◌-◌, ◌<◌, ◌≤◌, true, length, take, IfOk};
+ghost use Rattle.std.specs.Prelude.{◌≡◌, ℕ, [], ◌+◌, ◌-◌, ◌<◌, ◌≤◌, true, false, length, IfOk, MatchOption};
 ghost use Rattle.grammar.specs.Shape.{is_basic};
 ghost use Rattle.building.specs.Building.{CodeNumber, Builds, BuildsBare, BuildsFields, BuildsWhole, Goes, Skips, Wraps};
 
 use crate::maker::Maker;
+use arrayvec::ArrayVec;
 use grammar::error::Refusal;
 use reader::cursor::Cursor;
 
@@ -17,18 +15,14 @@ const CODES: [u8; 14] = *b"ybnqiuxtdsgovh";
 const FEW: usize = 256;
 
 // The most bytes that a text may have.
-const LONGEST_TEXT: usize = 65535;
+const LONGEST_TEXT: usize = 65_535;
 
-// The number of the basic type whose code is `b`; 0 where there is none.
-fn code_number(b: u8) -> u16
-    ensures { is_basic b ≡ true → CodeNumber b result }
+// The number of the basic type whose code is `b`.
+fn code_number(b: u8) -> Option<u16>
+    ensures { MatchOption result (is_basic b ≡ false) (λ n. CodeNumber b n) }
 {
-    for (i, c) in CODES.iter().enumerate() {
-        if *c == b {
-            return i as u16 + 1;
-        }
-    }
-    0
+    let i = CODES.iter().position(|c| *c == b)?;
+    Some(i as u16 + 1)
 }
 
 // How many `m` come next, which are passed.
@@ -54,124 +48,114 @@ fn wrap<M: Maker>(maker: &mut M, n: u16, maybes: usize) -> Result<u16, Refusal>
     Ok(n)
 }
 
-// The types up to `)`, and the structure of them.
-#[cycle(bare_signature_many_signature)]
-fn many<M: Maker>(
-    maker: &mut M,
-    cursor: &mut Cursor,
-    pending: &mut [u16],
-    base: usize,
-) -> Result<u16, Refusal>
-    requires room { base + (length cursor.old.text.now - cursor.old.at) ≤ length pending.old }
-    ensures text { cursor.new.text.now ≡ cursor.old.text.now }
-    ensures forward { IfOk result (λ n. cursor.old.at < cursor.new.at) }
-    ensures kept { take base pending.new ≡ take base pending.old }
-    ensures grew { Goes M.Maker.grew M.Maker.limits maker.old maker.new }
-    ensures builds { BuildsFields (M.Maker.limits maker.old) cursor.old.text.now cursor.old.at (M.Maker.book maker.old) result cursor.new.at (M.Maker.book maker.new) }
-{
-    let mut top = base;
-    while !cursor.eat(b')') {
-        let n = signature(maker, cursor, pending, top)?;
-        pending[top] = n;
-        top += 1;
-    }
-    maker.make_structure(&pending[base..top])
+// What enters a text with a maker, at a place in the text. The numbers of fields that wait for their structure lie on a
+// stack that all levels share; a text needs no more places there than it has bytes.
+#[derive(Drop)]
+struct Builder<'m, 't, M, const N: usize> {
+    maker: &'m mut M,
+    cursor: Cursor<'t>,
+    pending: ArrayVec<u16, N>,
+    ghost room: { length pending.items + (length cursor.text.now - cursor.at) ≤ N },
 }
 
-// A complete type that is no maybe.
-#[cycle(bare_signature_many_signature)]
-fn bare_signature<M: Maker>(
-    maker: &mut M,
-    cursor: &mut Cursor,
-    pending: &mut [u16],
-    top: usize,
-) -> Result<u16, Refusal>
-    requires room { top + (length cursor.old.text.now - cursor.old.at) ≤ length pending.old }
-    ensures text { cursor.new.text.now ≡ cursor.old.text.now }
-    ensures forward { IfOk result (λ n. cursor.old.at < cursor.new.at) }
-    ensures kept { take top pending.new ≡ take top pending.old }
-    ensures grew { Goes M.Maker.grew M.Maker.limits maker.old maker.new }
-    ensures builds { BuildsBare (M.Maker.limits maker.old) cursor.old.text.now cursor.old.at (M.Maker.book maker.old) result cursor.new.at (M.Maker.book maker.new) }
-{
-    let Some(b) = cursor.take() else {
-        return Err(Refusal::NoRows);
-    };
-    if b == b'a' {
-        if cursor.eat(b'{') {
-            let key = signature(maker, cursor, pending, top)?;
-            let value = signature(maker, cursor, pending, top)?;
-            let _ = cursor.eat(b'}');
-            maker.make_dict(key, value)
-        } else {
-            let child = signature(maker, cursor, pending, top)?;
-            maker.make_array(child)
+impl<'m, 't, M: Maker, const N: usize> Builder<'m, 't, M, N> {
+    // The types up to `)`, and the structure of them.
+    #[cycle(bare_signature_many_signature)]
+    fn many(&mut self) -> Result<u16, Refusal>
+        ensures same_maker { self.new.maker.ghost_name ≡ self.old.maker.ghost_name }
+        ensures text { self.new.cursor.text.now ≡ self.old.cursor.text.now }
+        ensures forward { IfOk result (λ n. self.old.cursor.at < self.new.cursor.at) }
+        ensures kept { IfOk result (λ n. self.new.pending ≡ self.old.pending) }
+        ensures grew { Goes M.Maker.grew M.Maker.limits self.old.maker.now self.new.maker.now }
+        ensures builds { BuildsFields (M.Maker.limits self.old.maker.now) self.old.cursor.text.now self.old.cursor.at (M.Maker.book self.old.maker.now) result self.new.cursor.at (M.Maker.book self.new.maker.now) }
+    {
+        let base = self.pending.len();
+        while !self.cursor.eat(b')') {
+            let n = self.signature()?;
+            self.pending.push(n);
         }
-    } else if b == b'(' {
-        many(maker, cursor, pending, top)
-    } else {
-        Ok(code_number(b))
+        let n = self.maker.make_structure(&self.pending.as_slice()[base..])?;
+        self.pending.truncate(base);
+        Ok(n)
+    }
+
+    // A complete type that is no maybe.
+    #[cycle(bare_signature_many_signature)]
+    fn bare_signature(&mut self) -> Result<u16, Refusal>
+        ensures same_maker { self.new.maker.ghost_name ≡ self.old.maker.ghost_name }
+        ensures text { self.new.cursor.text.now ≡ self.old.cursor.text.now }
+        ensures forward { IfOk result (λ n. self.old.cursor.at < self.new.cursor.at) }
+        ensures kept { IfOk result (λ n. self.new.pending ≡ self.old.pending) }
+        ensures grew { Goes M.Maker.grew M.Maker.limits self.old.maker.now self.new.maker.now }
+        ensures builds { BuildsBare (M.Maker.limits self.old.maker.now) self.old.cursor.text.now self.old.cursor.at (M.Maker.book self.old.maker.now) result self.new.cursor.at (M.Maker.book self.new.maker.now) }
+    {
+        let Some(b) = self.cursor.take() else {
+            return Err(Refusal::NoRows);
+        };
+        match b {
+            b'a' => {
+                if self.cursor.eat(b'{') {
+                    let key = self.signature()?;
+                    let value = self.signature()?;
+                    let _ = self.cursor.eat(b'}');
+                    self.maker.make_dict(key, value)
+                } else {
+                    let child = self.signature()?;
+                    self.maker.make_array(child)
+                }
+            }
+            b'(' => self.many(),
+            _ => code_number(b).ok_or(Refusal::NoRows),
+        }
+    }
+
+    // A complete type.
+    #[cycle(bare_signature_many_signature)]
+    fn signature(&mut self) -> Result<u16, Refusal>
+        ensures same_maker { self.new.maker.ghost_name ≡ self.old.maker.ghost_name }
+        ensures text { self.new.cursor.text.now ≡ self.old.cursor.text.now }
+        ensures forward { IfOk result (λ n. self.old.cursor.at < self.new.cursor.at) }
+        ensures kept { IfOk result (λ n. self.new.pending ≡ self.old.pending) }
+        ensures grew { Goes M.Maker.grew M.Maker.limits self.old.maker.now self.new.maker.now }
+        ensures builds { Builds (M.Maker.limits self.old.maker.now) self.old.cursor.text.now self.old.cursor.at (M.Maker.book self.old.maker.now) result self.new.cursor.at (M.Maker.book self.new.maker.now) }
+    {
+        let maybes = skip_maybes(&mut self.cursor);
+        let n = self.bare_signature()?;
+        wrap(self.maker, n, maybes)
+    }
+
+    // All types up to the end of the text, and the number of the whole.
+    fn whole(&mut self) -> Result<u16, Refusal>
+        requires start { self.old.cursor.at ≡ 0 }
+        requires empty { self.old.pending.items ≡ [] }
+        ensures same_maker { self.new.maker.ghost_name ≡ self.old.maker.ghost_name }
+        ensures grew { Goes M.Maker.grew M.Maker.limits self.old.maker.now self.new.maker.now }
+        ensures builds { BuildsWhole (M.Maker.limits self.old.maker.now) self.old.cursor.text.now (M.Maker.book self.old.maker.now) result (M.Maker.book self.new.maker.now) }
+    {
+        while !self.cursor.at_end() {
+            let n = self.signature()?;
+            self.pending.push(n);
+        }
+        match self.pending.as_slice() {
+            [] => Ok(0),
+            [n] => Ok(*n),
+            all => self.maker.make_structure(all),
+        }
     }
 }
 
-// A complete type.
-#[cycle(bare_signature_many_signature)]
-fn signature<M: Maker>(
-    maker: &mut M,
-    cursor: &mut Cursor,
-    pending: &mut [u16],
-    top: usize,
-) -> Result<u16, Refusal>
-    requires room { top + (length cursor.old.text.now - cursor.old.at) ≤ length pending.old }
-    ensures text { cursor.new.text.now ≡ cursor.old.text.now }
-    ensures forward { IfOk result (λ n. cursor.old.at < cursor.new.at) }
-    ensures kept { take top pending.new ≡ take top pending.old }
-    ensures grew { Goes M.Maker.grew M.Maker.limits maker.old maker.new }
-    ensures builds { Builds (M.Maker.limits maker.old) cursor.old.text.now cursor.old.at (M.Maker.book maker.old) result cursor.new.at (M.Maker.book maker.new) }
-{
-    let maybes = skip_maybes(cursor);
-    let n = bare_signature(maker, cursor, pending, top)?;
-    wrap(maker, n, maybes)
-}
-
-// All types of the text, and the number of the whole.
-fn whole<M: Maker>(maker: &mut M, text: &[u8], pending: &mut [u16]) -> Result<u16, Refusal>
-    requires room { length text.now ≤ length pending.old }
+// All types of a text of at most `N` bytes, and the number of the whole.
+fn build_within<M: Maker, const N: usize>(maker: &mut M, text: &[u8]) -> Result<u16, Refusal>
+    requires room { length text.now ≤ N }
     ensures grew { Goes M.Maker.grew M.Maker.limits maker.old maker.new }
     ensures builds { BuildsWhole (M.Maker.limits maker.old) text.now (M.Maker.book maker.old) result (M.Maker.book maker.new) }
 {
-    let mut cursor = Cursor::new(text);
-    let mut top = 0;
-    while !cursor.at_end() {
-        let n = signature(maker, &mut cursor, pending, top)?;
-        pending[top] = n;
-        top += 1;
-    }
-    if top == 0 {
-        Ok(0)
-    } else if top == 1 {
-        Ok(pending[0])
-    } else {
-        maker.make_structure(&pending[..top])
-    }
-}
-
-// A text of at most `FEW` bytes.
-fn short<M: Maker>(maker: &mut M, text: &[u8]) -> Result<u16, Refusal>
-    requires room { length text.now ≤ 256 }
-    ensures grew { Goes M.Maker.grew M.Maker.limits maker.old maker.new }
-    ensures builds { BuildsWhole (M.Maker.limits maker.old) text.now (M.Maker.book maker.old) result (M.Maker.book maker.new) }
-{
-    let mut pending = [0u16; 256];
-    whole(maker, text, &mut pending)
-}
-
-fn long<M: Maker>(maker: &mut M, text: &[u8]) -> Result<u16, Refusal>
-    requires room { length text.now ≤ 65535 }
-    ensures grew { Goes M.Maker.grew M.Maker.limits maker.old maker.new }
-    ensures builds { BuildsWhole (M.Maker.limits maker.old) text.now (M.Maker.book maker.old) result (M.Maker.book maker.new) }
-{
-    let mut pending = [0u16; 65535];
-    whole(maker, text, &mut pending)
+    let mut builder = Builder::<M, N> {
+        maker,
+        cursor: Cursor::new(text),
+        pending: ArrayVec::new(),
+    };
+    builder.whole()
 }
 
 // All types of the text, on a stack of pending fields that suits its length, and the number of the whole. A text that no
@@ -181,9 +165,9 @@ pub fn build<M: Maker>(maker: &mut M, text: &[u8]) -> Result<u16, Refusal>
     ensures builds { BuildsWhole (M.Maker.limits maker.old) text.now (M.Maker.book maker.old) result (M.Maker.book maker.new) }
 {
     if text.len() <= FEW {
-        short(maker, text)
+        build_within::<M, FEW>(maker, text)
     } else if text.len() <= LONGEST_TEXT {
-        long(maker, text)
+        build_within::<M, LONGEST_TEXT>(maker, text)
     } else {
         Err(Refusal::TextTooLong)
     }
