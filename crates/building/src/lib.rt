@@ -9,5 +9,4 @@ pub mod maker;
 // The function stands for the theorem in its contract.
 pub fn fields_first()
     ensures { FieldsFirst }
-{
-}
+{}
