@@ -1,27 +1,30 @@
 // The types of a valid text, entered with a maker: a list of types and a type call for each other, as in reading.
-ghost use Rattle.std.specs.Prelude.{◌≡◌, ℕ, [], ◌+◌, ◌-◌, ◌<◌, ◌≤◌, true, false, length, IfOk, MatchOption};
+ghost use Rattle.std.specs.Prelude.{◌≡◌, [], ◌+◌, ◌-◌, ◌≤◌, ◌==◌, false, length, position, MatchOption};
 ghost use Rattle.grammar.specs.Shape.{is_basic};
 ghost use Rattle.building.specs.Building.{CodeNumber, Builds, BuildsBare, BuildsFields, BuildsWhole, Goes, Skips, Wraps};
 
 use crate::maker::Maker;
 use arrayvec::ArrayVec;
+use grammar::codes::CODES;
 use grammar::error::Refusal;
+use grammar::limits::LONGEST_TEXT;
 use reader::cursor::Cursor;
-
-// The basic types, in the order of their numbers, which begin with 1.
-const CODES: [u8; 14] = *b"ybnqiuxtdsgovh";
 
 // How many bytes a text may have for the small stack of pending fields.
 const FEW: usize = 256;
 
-// The most bytes that a text may have.
-const LONGEST_TEXT: usize = 65_535;
+// Where `b` stands first in `bytes`.
+fn place_of(b: u8, bytes: &[u8]) -> Option<usize>
+    ensures { result ≡ position (λ c. c == b) bytes.now }
+{
+    bytes.iter().position(|c| *c == b)
+}
 
 // The number of the basic type whose code is `b`.
 fn code_number(b: u8) -> Option<u16>
     ensures { MatchOption result (is_basic b ≡ false) (λ n. CodeNumber b n) }
 {
-    let i = CODES.iter().position(|c| *c == b)?;
+    let i = place_of(b, &CODES)?;
     Some(i as u16 + 1)
 }
 
@@ -38,8 +41,8 @@ fn skip_maybes(cursor: &mut Cursor) -> usize
 
 // `n` behind so many `m`.
 fn wrap<M: Maker>(maker: &mut M, n: u16, maybes: usize) -> Result<u16, Refusal>
-    ensures grew { Goes M.Maker.grew M.Maker.limits maker.old maker.new }
-    ensures wraps { Wraps (M.Maker.limits maker.old) maybes n (M.Maker.book maker.old) result (M.Maker.book maker.new) }
+    ensures grew { Goes M.grew M.limits maker.old maker.new }
+    ensures wraps { Wraps (M.limits maker.old) maybes n (M.book maker.old) result (M.book maker.new) }
 {
     let mut n = n;
     for _i in 0..maybes {
@@ -59,35 +62,46 @@ struct Builder<'m, 't, M, const N: usize> {
 }
 
 impl<'m, 't, M: Maker, const N: usize> Builder<'m, 't, M, N> {
+    ghost use Rattle.building.specs.Steps.{Came, Went};
+
+    // At the start of a text of at most `N` bytes.
+    fn new(maker: &'m mut M, text: &'t [u8]) -> Builder<'m, 't, M, N>
+        requires room { length text.now ≤ N }
+        requires small { N ≤ 65535 }
+        ensures same_maker { result.maker.ghost_name ≡ maker.entry.ghost_name }
+        ensures maker { result.maker.now ≡ maker.old }
+        ensures text { result.cursor.text.now ≡ text.now }
+        ensures start { result.cursor.at ≡ 0 }
+        ensures empty { result.pending.items ≡ [] }
+    {
+        Builder {
+            maker,
+            cursor: Cursor::new(text),
+            pending: ArrayVec::new(),
+        }
+    }
+
     // The types up to `)`, and the structure of them.
     #[cycle(bare_signature_many_signature)]
     fn many(&mut self) -> Result<u16, Refusal>
-        ensures same_maker { self.new.maker.ghost_name ≡ self.old.maker.ghost_name }
-        ensures text { self.new.cursor.text.now ≡ self.old.cursor.text.now }
-        ensures forward { IfOk result (λ n. self.old.cursor.at < self.new.cursor.at) }
-        ensures kept { IfOk result (λ n. self.new.pending ≡ self.old.pending) }
-        ensures grew { Goes M.Maker.grew M.Maker.limits self.old.maker.now self.new.maker.now }
-        ensures builds { BuildsFields (M.Maker.limits self.old.maker.now) self.old.cursor.text.now self.old.cursor.at (M.Maker.book self.old.maker.now) result self.new.cursor.at (M.Maker.book self.new.maker.now) }
+        ensures went { Went M.grew M.limits self.old self.new result }
+        ensures builds { Came BuildsFields M.limits M.book self.old result self.new }
     {
         let base = self.pending.len();
         while !self.cursor.eat(b')') {
             let n = self.signature()?;
             self.pending.push(n);
         }
-        let n = self.maker.make_structure(&self.pending.as_slice()[base..])?;
+        let structure = self.maker.make_structure(&self.pending.as_slice()[base..]);
         self.pending.truncate(base);
-        Ok(n)
+        structure
     }
 
     // A complete type that is no maybe.
     #[cycle(bare_signature_many_signature)]
     fn bare_signature(&mut self) -> Result<u16, Refusal>
-        ensures same_maker { self.new.maker.ghost_name ≡ self.old.maker.ghost_name }
-        ensures text { self.new.cursor.text.now ≡ self.old.cursor.text.now }
-        ensures forward { IfOk result (λ n. self.old.cursor.at < self.new.cursor.at) }
-        ensures kept { IfOk result (λ n. self.new.pending ≡ self.old.pending) }
-        ensures grew { Goes M.Maker.grew M.Maker.limits self.old.maker.now self.new.maker.now }
-        ensures builds { BuildsBare (M.Maker.limits self.old.maker.now) self.old.cursor.text.now self.old.cursor.at (M.Maker.book self.old.maker.now) result self.new.cursor.at (M.Maker.book self.new.maker.now) }
+        ensures went { Went M.grew M.limits self.old self.new result }
+        ensures builds { Came BuildsBare M.limits M.book self.old result self.new }
     {
         let Some(b) = self.cursor.take() else {
             return Err(Refusal::NoRows);
@@ -112,12 +126,8 @@ impl<'m, 't, M: Maker, const N: usize> Builder<'m, 't, M, N> {
     // A complete type.
     #[cycle(bare_signature_many_signature)]
     fn signature(&mut self) -> Result<u16, Refusal>
-        ensures same_maker { self.new.maker.ghost_name ≡ self.old.maker.ghost_name }
-        ensures text { self.new.cursor.text.now ≡ self.old.cursor.text.now }
-        ensures forward { IfOk result (λ n. self.old.cursor.at < self.new.cursor.at) }
-        ensures kept { IfOk result (λ n. self.new.pending ≡ self.old.pending) }
-        ensures grew { Goes M.Maker.grew M.Maker.limits self.old.maker.now self.new.maker.now }
-        ensures builds { Builds (M.Maker.limits self.old.maker.now) self.old.cursor.text.now self.old.cursor.at (M.Maker.book self.old.maker.now) result self.new.cursor.at (M.Maker.book self.new.maker.now) }
+        ensures went { Went M.grew M.limits self.old self.new result }
+        ensures builds { Came Builds M.limits M.book self.old result self.new }
     {
         let maybes = skip_maybes(&mut self.cursor);
         let n = self.bare_signature()?;
@@ -129,8 +139,8 @@ impl<'m, 't, M: Maker, const N: usize> Builder<'m, 't, M, N> {
         requires start { self.old.cursor.at ≡ 0 }
         requires empty { self.old.pending.items ≡ [] }
         ensures same_maker { self.new.maker.ghost_name ≡ self.old.maker.ghost_name }
-        ensures grew { Goes M.Maker.grew M.Maker.limits self.old.maker.now self.new.maker.now }
-        ensures builds { BuildsWhole (M.Maker.limits self.old.maker.now) self.old.cursor.text.now (M.Maker.book self.old.maker.now) result (M.Maker.book self.new.maker.now) }
+        ensures grew { Goes M.grew M.limits self.old.maker.now self.new.maker.now }
+        ensures builds { BuildsWhole (M.limits self.old.maker.now) self.old.cursor.text.now (M.book self.old.maker.now) result (M.book self.new.maker.now) }
     {
         while !self.cursor.at_end() {
             let n = self.signature()?;
@@ -144,30 +154,16 @@ impl<'m, 't, M: Maker, const N: usize> Builder<'m, 't, M, N> {
     }
 }
 
-// All types of a text of at most `N` bytes, and the number of the whole.
-fn build_within<M: Maker, const N: usize>(maker: &mut M, text: &[u8]) -> Result<u16, Refusal>
-    requires room { length text.now ≤ N }
-    ensures grew { Goes M.Maker.grew M.Maker.limits maker.old maker.new }
-    ensures builds { BuildsWhole (M.Maker.limits maker.old) text.now (M.Maker.book maker.old) result (M.Maker.book maker.new) }
-{
-    let mut builder = Builder::<M, N> {
-        maker,
-        cursor: Cursor::new(text),
-        pending: ArrayVec::new(),
-    };
-    builder.whole()
-}
-
 // All types of the text, on a stack of pending fields that suits its length, and the number of the whole. A text that no
 // signature is as long as is refused.
 pub fn build<M: Maker>(maker: &mut M, text: &[u8]) -> Result<u16, Refusal>
-    ensures grew { Goes M.Maker.grew M.Maker.limits maker.old maker.new }
-    ensures builds { BuildsWhole (M.Maker.limits maker.old) text.now (M.Maker.book maker.old) result (M.Maker.book maker.new) }
+    ensures grew { Goes M.grew M.limits maker.old maker.new }
+    ensures builds { BuildsWhole (M.limits maker.old) text.now (M.book maker.old) result (M.book maker.new) }
 {
     if text.len() <= FEW {
-        build_within::<M, FEW>(maker, text)
+        Builder::<M, FEW>::new(maker, text).whole()
     } else if text.len() <= LONGEST_TEXT {
-        build_within::<M, LONGEST_TEXT>(maker, text)
+        Builder::<M, LONGEST_TEXT>::new(maker, text).whole()
     } else {
         Err(Refusal::TextTooLong)
     }
