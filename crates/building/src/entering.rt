@@ -154,6 +154,16 @@ impl<'m, 't, M: Maker, const N: usize> Builder<'m, 't, M, N> {
     }
 }
 
+// All types of a text of any length. This is no part of `build`, so that a short text does not pay for so much stack.
+#[inline(never)]
+fn build_long<M: Maker>(maker: &mut M, text: &[u8]) -> Result<u16, Refusal>
+    requires room { length text.now ≤ 65535 }
+    ensures grew { Goes M.grew M.limits maker.old maker.new }
+    ensures builds { BuildsWhole (M.limits maker.old) text.now (M.book maker.old) result (M.book maker.new) }
+{
+    Builder::<M, LONGEST_TEXT>::new(maker, text).whole()
+}
+
 // All types of the text, on a stack of pending fields that suits its length, and the number of the whole. A text that no
 // signature is as long as is refused.
 pub fn build<M: Maker>(maker: &mut M, text: &[u8]) -> Result<u16, Refusal>
@@ -163,7 +173,7 @@ pub fn build<M: Maker>(maker: &mut M, text: &[u8]) -> Result<u16, Refusal>
     if text.len() <= FEW {
         Builder::<M, FEW>::new(maker, text).whole()
     } else if text.len() <= LONGEST_TEXT {
-        Builder::<M, LONGEST_TEXT>::new(maker, text).whole()
+        build_long(maker, text)
     } else {
         Err(Refusal::TextTooLong)
     }
