@@ -5,4 +5,3 @@ pub mod Summed
 pub mod Shown
 pub mod Texts
 pub mod FromText
-pub mod OnSheet
