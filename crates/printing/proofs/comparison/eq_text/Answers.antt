@@ -3,7 +3,8 @@ use Rattle.std.proofs.lemmas.Result.{err_from_is_err_and}
 use Rattle.grammar.specs.declared.error.Refusal.TheVariants.{Unknown}
 use Rattle.book.specs.Plain.{text_of}
 use Rattle.sheet.specs.declared.sheet.Sheet.{Sheet}
-use Rattle.forms.specs.Forms.{book_in, bare_text}
+use Rattle.forms.specs.Forms.{bare_text}
+use Rattle.sheet.specs.Seen.{book_in}
 use Rattle.forms.specs.Spans.{bytes_in}
 use Rattle.forms.proofs.Texts.{bytes_as}
 use Rattle.printing.proofs.Asked.{eq_unknown, eq_first, eq_second}

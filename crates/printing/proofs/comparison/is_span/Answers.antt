@@ -1,5 +1,5 @@
 use Rattle.book.specs.Plain.{text_of}
-use Rattle.forms.specs.Forms.{book_in}
+use Rattle.sheet.specs.Seen.{book_in}
 use Rattle.forms.specs.Spans.{bytes_in}
 use Rattle.printing.proofs.Asked.{same_if, other_if}
 use Rattle.printing.proofs.comparison.is_span.Goals as goal

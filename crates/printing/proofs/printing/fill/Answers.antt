@@ -1,6 +1,6 @@
 use Rattle.std.proofs.Common.{length, refl, ◌∙◌, arith, rules}
 use Rattle.book.specs.Plain.{text_of}
-use Rattle.forms.specs.Forms.{book_in}
+use Rattle.sheet.specs.Seen.{book_in}
 use Rattle.forms.specs.Spans.{bytes_in}
 use Rattle.printing.proofs.Asked.{front_filled, too_long, fits}
 use Rattle.printing.proofs.Offering.{span_long}

@@ -3,7 +3,7 @@ use Rattle.std.proofs.lemmas.List.{drop-drop}
 use Rattle.book.specs.Plain.{text_of}
 use Rattle.writers.specs.Rule.{Wrote}
 use Rattle.writers.proofs.Accepting.{going_on, going_stop, going_end}
-use Rattle.forms.specs.Forms.{book_in}
+use Rattle.sheet.specs.Seen.{book_in}
 use Rattle.forms.specs.Spans.{bytes_in}
 use Rattle.forms.proofs.Texts.{byte_as}
 use Rattle.printing.proofs.Offering.{span_long, span_byte, under}

@@ -2,7 +2,7 @@ use Rattle.std.proofs.Common.{◌≡◌, Err, refl, ap, ◌∙◌}
 use Rattle.std.proofs.lemmas.Result.{err_from_is_err_and}
 use Rattle.grammar.specs.declared.error.Refusal.TheVariants.{Unknown}
 use Rattle.book.specs.Plain.{text_of}
-use Rattle.forms.specs.Forms.{book_in}
+use Rattle.sheet.specs.Seen.{book_in}
 use Rattle.forms.specs.Spans.{bytes_in}
 use Rattle.forms.proofs.Texts.{bytes_as}
 use Rattle.printing.proofs.Asked.{none_taken, none_dropped, on_refusal, contents, written_known, written_unknown}
