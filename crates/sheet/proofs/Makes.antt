@@ -8,6 +8,7 @@ use Rattle.rows.specs.declared.RowList.{RowList}
 use Rattle.book.specs.Plain.{Answer}
 use Rattle.book.specs.Nodes.{Node, array, maybe, dict, figures_at, figures_from, array_figures, maybe_figures, dict_figures, size_of}
 use Rattle.book.specs.Makers.{placed, sized, array_call, maybe_call, dict_call}
+use Rattle.layout.specs.declared.row.Kind.TheVariants.{Array, Dict, Maybe}
 use Rattle.layout.specs.declared.row.TypeRow.{TypeRow}
 use Rattle.layout.specs.declared.row.FieldRow.{FieldRow}
 use Rattle.sheet.specs.declared.sheet.Sheet.{Sheet}
@@ -26,7 +27,7 @@ module _ (t : RowList TypeRow) (f : RowList FieldRow) where
   count = length-map (types_in t) (node_of (fields_in f))
 
   pub fit_array : (n : ℕ) (part whole : Figures) → Figured (nodes_of t f) n part → (n ≡ 0 → ⊥) → Short (array_figures part) whole
-      → Fit (types_in t) (fields_in f) (record { kind = 1; first = n; second = 0; figures = whole })
+      → Fit (types_in t) (fields_in f) (record { kind = Array; first = n; second = 0; figures = whole })
   fit_array n part whole k z s = record {
     coded = refl;
     figures = s.figures ∙ ap array_figures k.figures;
@@ -34,7 +35,7 @@ module _ (t : RowList TypeRow) (f : RowList FieldRow) where
   }
 
   pub fit_maybe : (n : ℕ) (part whole : Figures) → Figured (nodes_of t f) n part → (n ≡ 0 → ⊥) → Short (maybe_figures part) whole
-      → Fit (types_in t) (fields_in f) (record { kind = 4; first = n; second = 0; figures = whole })
+      → Fit (types_in t) (fields_in f) (record { kind = Maybe; first = n; second = 0; figures = whole })
   fit_maybe n part whole k z s = record {
     coded = refl;
     figures = s.figures ∙ ap maybe_figures k.figures;
@@ -42,7 +43,7 @@ module _ (t : RowList TypeRow) (f : RowList FieldRow) where
   }
 
   pub fit_dict : (k v : ℕ) (key value whole : Figures) → Figured (nodes_of t f) k key → Figured (nodes_of t f) v value → (k ≡ 0 → ⊥) → (v ≡ 0 → ⊥) → Short (dict_figures key value) whole
-      → Fit (types_in t) (fields_in f) (record { kind = 2; first = k; second = v; figures = whole })
+      → Fit (types_in t) (fields_in f) (record { kind = Dict; first = k; second = v; figures = whole })
   fit_dict k v key value whole p q y z s = record {
     coded = refl;
     figures = s.figures ∙ ap (λ (u : Figures). dict_figures u value) p.figures ∙ ap (dict_figures (figures_at (figures_from [] (nodes_of t f)) k)) q.figures;

@@ -10,23 +10,18 @@ ghost use Rattle.layout.specs.Figured.{Short, Long};
 ghost use Rattle.layout.specs.Structured.{AllParts, Structured};
 ghost use Rattle.sheet.specs.Seen.{nodes_on, tails_on, CalledOn, MadeOn};
 
-use crate::figures::{array_figures, dict_figures, structure_figures};
 use crate::lay::{all_known, file_structure, no_unit};
+use crate::row::{Kind, TypeRow, number_at};
 use crate::sheet::Sheet;
 use grammar::error::Refusal;
 use grammar::figures::Figures;
-use layout::figures::{maybe_figures, with_field};
-use layout::row::{ARRAY, DICT, MAYBE, TypeRow};
+use layout::figures::{array_figures, dict_figures, maybe_figures, structure_figures, with_field};
 
 // The figures of no fields.
 const NO_FIELDS: Figures = Figures {
-    length: 0,
-    structures: 0,
-    arrays: 0,
     dbus: 8,
-    gvariant: 0,
     fixed: true,
-    maybe: false,
+    ..Figures::NONE
 };
 
 impl<'a> Sheet<'a> {
@@ -37,7 +32,7 @@ impl<'a> Sheet<'a> {
         ensures { MadeOn self.old self.new (outcome result) (with_tails (tails_on self.old) (placed self.old.types.cap (nodes_on self.old) (node_of (fields_in self.old.fields) row))) }
     {
         match self.types.find_or_add(row) {
-            Some(i) => Ok(15 + i as u16),
+            Some(i) => Ok(number_at(i)),
             None => Err(Refusal::NoRows),
         }
     }
@@ -53,10 +48,10 @@ impl<'a> Sheet<'a> {
         }
         let figures = array_figures(part)?;
         self.enter(TypeRow {
-            kind: ARRAY,
+            kind: Kind::Array,
             first: n,
-            second: 0,
             figures,
+            ..TypeRow::BLANK
         })
     }
 
@@ -71,10 +66,10 @@ impl<'a> Sheet<'a> {
         }
         let figures = maybe_figures(part)?;
         self.enter(TypeRow {
-            kind: MAYBE,
+            kind: Kind::Maybe,
             first: n,
-            second: 0,
             figures,
+            ..TypeRow::BLANK
         })
     }
 
@@ -93,7 +88,7 @@ impl<'a> Sheet<'a> {
         }
         let figures = dict_figures(key, value)?;
         self.enter(TypeRow {
-            kind: DICT,
+            kind: Kind::Dict,
             first: k,
             second: v,
             figures,
@@ -101,11 +96,11 @@ impl<'a> Sheet<'a> {
     }
 
     // The number of the next new container; those below it are known.
-    fn next_number(&mut self) -> usize
+    fn next_number(&mut self) -> u16
         ensures same { self.new ≡ self.old }
         ensures number { result ≡ 15 + length (nodes_on self.old) }
     {
-        15 + self.counts().0
+        number_at(self.counts().0)
     }
 
     // The figures of the fields `fs` in a row.
@@ -115,8 +110,8 @@ impl<'a> Sheet<'a> {
         ensures figures { MatchResult result (λ f. Short (field_figures (figures_from [] (nodes_on self.old)) fs.now) f) (λ e. Long (field_figures (figures_from [] (nodes_on self.old)) fs.now) e) }
     {
         let mut all = NO_FIELDS;
-        for i in (0..fs.len()).rev() {
-            let field = self.figures(fs[i], i)?;
+        for (i, f) in fs.iter().enumerate().rev() {
+            let field = self.figures(*f, i)?;
             all = with_field(field, all)?;
         }
         Ok(all)
