@@ -6,7 +6,7 @@ ghost use Rattle.book.specs.Makers.{placed, array_call, maybe_call, dict_call, s
 ghost use Rattle.layout.specs.Kept.{Fit, types_in, fields_in, node_of};
 ghost use Rattle.layout.specs.Made.{with_tails};
 ghost use Rattle.book.specs.Plain.{array as array_of, maybe as maybe_of, dict as dict_of, structure as structure_of};
-ghost use Rattle.layout.specs.Figured.{Short, Long};
+ghost use Rattle.layout.specs.Figured.{Short, Long, FiguredPart, NotPart};
 ghost use Rattle.layout.specs.Structured.{AllParts, Structured};
 ghost use Rattle.sheet.specs.Seen.{nodes_on, tails_on, CalledOn, MadeOn};
 
@@ -37,15 +37,24 @@ impl<'a> Sheet<'a> {
         }
     }
 
+    // The figures of the number `n`, which is to be a part.
+    fn part(&mut self, n: u16) -> Result<Figures, Refusal>
+        ensures same { self.new ≡ self.old }
+        ensures part { MatchResult result (λ f. FiguredPart (nodes_on self.old) n f) (λ e. NotPart (nodes_on self.old) n e) }
+    {
+        let figures = self.figures(n, 0)?;
+        if n == 0 {
+            return Err(Refusal::UnitPart(0));
+        }
+        Ok(figures)
+    }
+
     // The array of the number `n`.
     pub fn array(&mut self, n: u16) -> Result<u16, Refusal>
         ensures called { CalledOn self.old self.new (outcome result) (array_of n) }
         ensures made { MadeOn self.old self.new (outcome result) (with_tails (tails_on self.old) (array_call self.old.types.cap (nodes_on self.old) n)) }
     {
-        let part = self.figures(n, 0)?;
-        if n == 0 {
-            return Err(Refusal::UnitPart(0));
-        }
+        let part = self.part(n)?;
         let figures = array_figures(part)?;
         self.enter(TypeRow {
             kind: Kind::Array,
@@ -60,10 +69,7 @@ impl<'a> Sheet<'a> {
         ensures called { CalledOn self.old self.new (outcome result) (maybe_of n) }
         ensures made { MadeOn self.old self.new (outcome result) (with_tails (tails_on self.old) (maybe_call self.old.types.cap (nodes_on self.old) n)) }
     {
-        let part = self.figures(n, 0)?;
-        if n == 0 {
-            return Err(Refusal::UnitPart(0));
-        }
+        let part = self.part(n)?;
         let figures = maybe_figures(part)?;
         self.enter(TypeRow {
             kind: Kind::Maybe,

@@ -1,11 +1,10 @@
-use Rattle.std.proofs.Common.{◌≡◌, ℕ, ◌+◌, ◌-◌, ◌≤◌, List, length, get_or, refl, ap, ◌∙◌, subst, arith}
+use Rattle.std.proofs.Common.{◌≡◌, ℕ, ◌-◌, List, length, get_or, ap, ◌∙◌, subst, arith}
 use Rattle.rows.specs.declared.RowList.{RowList}
 use Rattle.rows.specs.Found.{Place, Refused}
 use Rattle.layout.specs.declared.row.FieldRow.{FieldRow}
 use Rattle.layout.specs.Tails.{field_key}
-use Rattle.layout.specs.Laid.{Laid}
-use Rattle.layout.proofs.Lays.{laid_start, laid_step, no_room, place_fits, ready_as, laid_as, no_room_as}
-use Rattle.sheet.proofs.Backwards.{Last, last_of}
+use Rattle.layout.proofs.Lays.{laid_step, no_room, ready_as, no_room_as}
+use Rattle.sheet.proofs.Backwards.{last_of}
 use Rattle.sheet.proofs.lay.lay.Goals as goal
 
 -- the field row of a turn

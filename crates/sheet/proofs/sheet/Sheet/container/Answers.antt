@@ -1,4 +1,3 @@
-use Rattle.std.proofs.Common.{◌∙◌}
 use Rattle.sheet.proofs.Shown.{container_row}
 use Rattle.sheet.proofs.sheet.Sheet.container.Goals as goal
 

@@ -1,4 +1,4 @@
-use Rattle.std.proofs.Common.{◌≡◌, ℕ, [], length, subst, ap, ◌∙◌, arith}
+use Rattle.std.proofs.Common.{ℕ, [], length, subst, ap, ◌∙◌, arith}
 use Rattle.std.proofs.lemmas.Result.{err_from_is_err_and}
 use Rattle.grammar.specs.declared.figures.Figures.{Figures}
 use Rattle.book.specs.Nodes.{figures_from}
