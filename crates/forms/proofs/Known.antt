@@ -1,12 +1,12 @@
 -- What is answered about a number, where it is known and where it is not.
 use Rattle.std.proofs.Common.{◌≡◌, ℕ, ◌+◌, ◌-◌, ◌<◌, ◌≤◌, Bool, true, false, cond, ltb, List, [], ◌∷◌, length, Some, None, Ok, Err, Option, Result, MatchOption, MatchResult, SomeIff, sym, refl, ap, ◌∙◌, arith, le-ltb, lt-ltb}
 use Rattle.std.specs.Option.{unwrap_or}
-use Rattle.std.specs.Result.{is_ok}
+use Rattle.std.specs.Result.{is_ok, IsErr, IsErrAnd}
 use Rattle.std.proofs.lemmas.Bool.{ltb-true, ltb-false}
 use Rattle.grammar.specs.declared.error.Refusal.{Refusal}
 use Rattle.grammar.specs.declared.error.Refusal.TheVariants.{Unknown}
 use Rattle.grammar.specs.declared.error.Refusal
-use Rattle.grammar.specs.Refusals.{Outcome, accepted, refused, outcome}
+use Rattle.grammar.specs.Refusals.{Outcome, accepted, refused, outcome, number_of, values_of}
 use Rattle.grammar.specs.Shape.{Text}
 use Rattle.grammar.specs.Figures.{text_figures}
 use Rattle.book.specs.Plain.{text_of}
@@ -59,6 +59,17 @@ module _ (s : Sheet) (n : ℕ) where
   unfolding figure_of
   told r h = of_outcome (ltb n (15 + length (book_in s))) r refl h
 
+  pub told_known : (l : ℕ) → accepted l ≡ string_length_of (book_in s) n → Long (book_in s) n l
+  told_known l h = told (Ok l) h
+
+  pub told_unknown : (e : Refusal) → ◌≡◌ {A = Outcome ℕ} (refused (number_of e) (values_of e)) (string_length_of (book_in s) n) → NotKnown (book_in s) n e
+  told_unknown e h = told (Err e) h
+
   pub is_ok_known : (r : Result ℕ Refusal) → MatchResult r (λ l. Long (book_in s) n l) (λ e. NotKnown (book_in s) n e) → is_ok r ≡ ltb n (15 + length (book_in s))
   is_ok_known (Ok l) h = sym h.known
   is_ok_known (Err e) h = sym h.unknown
+
+-- the refusal that `?` hands on
+pub refused_as : {A : Type 0} (P : A → Type 0) (s : Sheet) (n : ℕ) (r : Result A Refusal) (e : Refusal) → IsErr r × IsErrAnd r (λ x. x ≡ e) → NotKnown (book_in s) n e → MatchResult r P (λ x. NotKnown (book_in s) n x)
+refused_as P s n (Ok x) e h k = let z : false ≡ true = h.0 in absurd cc
+refused_as P s n (Err x) e h k = record { unknown = k.unknown; refusal = h.1 ∙ k.refusal }

@@ -66,8 +66,8 @@ pub leads_pair : (b : List Text) (p k v : ℕ) (r : Step) → 2 ≤ p → Leads 
 leads_pair b p k v r l h =
     let e : p - 2 ≡ p - 1 - 1 = omega arith in
     let w : texts b (k ∷ v ∷ []) ++ 125 ∷ [] ≡ text_of b k ++ (text_of b v ++ 125 ∷ []) = simp append_assoc in
-    leads_behind b 97 p _ (k ∷ v ∷ []) r (omega arith)
-    (leads_behind b 123 (p - 1) _ (k ∷ v ∷ []) r (omega arith) (subst (λ (t : Text). Leads b t (k ∷ v ∷ []) (p - 1 - 1) r) w (subst (λ (q : ℕ). Leads b (texts b (k ∷ v ∷ []) ++ 125 ∷ []) (k ∷ v ∷ []) q r) e h)))
+    leads_behind b 97 p (123 ∷ (text_of b k ++ (text_of b v ++ 125 ∷ []))) (k ∷ v ∷ []) r (omega arith)
+    (leads_behind b 123 (p - 1) (text_of b k ++ (text_of b v ++ 125 ∷ [])) (k ∷ v ∷ []) r (omega arith) (subst (λ (t : Text). Leads b t (k ∷ v ∷ []) (p - 1 - 1) r) w (subst (λ (q : ℕ). Leads b (texts b (k ∷ v ∷ []) ++ 125 ∷ []) (k ∷ v ∷ []) q r) e h)))
 
 -- What a step by the row of n says of n.
 module _ {s s' : Sheet} {n : ℕ} {x : TypeRow} (p : ℕ) (e : s' ≡ s) (r : Row s n x) where

@@ -1,9 +1,8 @@
 -- The texts of the numbers of a sheet, by its rows.
-use Rattle.std.proofs.Common.{◌≡◌, ℕ, zero, suc, ◌+◌, ◌-◌, ◌<◌, ◌≤◌, min, List, [], ◌∷◌, ◌++◌, length, get_or, slice_get, Option as Optional, Some, None, MatchOption, sym, refl, ap, ◌∙◌, subst, ap₂, inl, inr, append_assoc, arith}
+use Rattle.std.proofs.Common.{◌≡◌, ℕ, zero, suc, ◌+◌, ◌-◌, ◌<◌, ◌≤◌, min, List, [], ◌∷◌, ◌++◌, map, length, get_or, slice_get, Option as Optional, Some, None, MatchOption, sym, refl, ap, ◌∙◌, subst, ap₂, inl, inr, append_assoc, arith}
 use Rattle.std.specs.declared.ops.Range.{Range}
 use mathlib.Core.Option.{Option}
 use Rattle.std.proofs.lemmas.List.{get_or-take, get_or-map, get_or_past, get_or_append_left, length-take-le}
-use Rattle.std.proofs.lemmas.Option.{slice_get-get_or}
 use Rattle.grammar.specs.declared.figures.Figures.{Figures}
 use Rattle.grammar.specs.Lists.{In}
 use Rattle.grammar.specs.Shape.{Text, basic_codes, Shape, printed, printed_all}
@@ -42,10 +41,15 @@ pub code_text : (n : ℕ) → (n ≡ 0 → ⊥) → n < 15 → text_of [] n ≡ 
 code_text zero h l = absurd (h refl)
 code_text (suc n) h l = let z : n ≡ suc n - 1 = omega arith in get_or-map single basic_codes n 0 [] (omega arith) ∙ ap (λ (k : ℕ). get_or basic_codes k 0 ∷ []) z
 
--- the byte of a basic code
-pub code_byte : (n p : ℕ) → p ≡ 0 → 0 < n → n < 15 → slice_get basic_codes (n - 1) ≡ slice_get (text_of [] n) p
-code_byte n p e l h =
-    slice_get-get_or basic_codes (n - 1) 0 (omega arith) ∙ ap₂ (λ (w : Text) (i : ℕ). slice_get w i) (sym (code_text n (λ z. omega arith) h)) (sym e)
+-- the only byte of a number but Unit is that of its code, where it has one
+single_byte : (cs : List ℕ) (i : ℕ) → slice_get cs i ≡ slice_get (get_or (map single cs ++ []) i []) 0
+single_byte [] i = refl
+single_byte (c ∷ cs) zero = refl
+single_byte (c ∷ cs) (suc i) = single_byte cs i
+
+pub code_byte : (n i p : ℕ) → p ≡ 0 → (1 ≤ n) × (i ≡ n - 1) → slice_get basic_codes i ≡ slice_get (text_of [] n) p
+code_byte zero i p e h = absurd (omega (arith, h.0))
+code_byte (suc n) i p e h = let z : i ≡ n = omega (arith, h.1) in ap (slice_get basic_codes) z ∙ single_byte basic_codes n ∙ ap (slice_get (text_of [] (suc n))) (sym e)
 
 pub first_long : (b : List Text) (n : ℕ) → n < 15 → length (text_of b n) ≡ min n 1
 first_long b zero l = refl

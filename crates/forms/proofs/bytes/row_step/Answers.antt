@@ -13,7 +13,7 @@ pub returns-in-2-default-clause-leads : goal.returns-in-2-default-clause-leads
 returns-in-2-default-clause-leads c =
     let b = book_in c.args.sheet.now in
     leads_as b (node_in c.args.sheet.now c.args.row) (dict c.args.row.first c.args.row.second) c.args.p c.pair_step.result (node_by_is c.args.sheet.now c.args.row 2 c.in-2-default.is-0)
-    (leads_pair b c.args.p c.args.row.first c.args.row.second c.pair_step.result ? c.pair_step.ensures.leads)
+    (leads_pair b c.args.p c.args.row.first c.args.row.second c.pair_step.result (omega (arith, c.in-2-default.is-1)) c.pair_step.ensures.leads)
 
 pub returns-in_default-clause-leads : goal.returns-in_default-clause-leads
 returns-in_default-clause-leads c = leads_as (book_in c.args.sheet.now) (node_in c.args.sheet.now c.args.row) _ c.args.p c.child_step-in_default.result (node_other c.args.sheet.now c.args.row (λ e. omega arith) (λ e. omega arith) (λ e. omega arith)) (c.child_step-in_default.ensures (book_in c.args.sheet.now))
