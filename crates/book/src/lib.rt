@@ -4,26 +4,18 @@
 ghost use Rattle.book.specs.Agree.{EachCallAgrees, EachRunAgrees};
 ghost use Rattle.book.specs.History.{AfterAnyCalls, OneMoreCall};
 
-pub fn after_any_calls() -> u8
+pub fn after_any_calls()
     ensures { AfterAnyCalls }
-{
-    0
-}
+{}
 
-pub fn one_more_call() -> u8
+pub fn one_more_call()
     ensures { OneMoreCall }
-{
-    0
-}
+{}
 
-pub fn each_call_agrees() -> u8
+pub fn each_call_agrees()
     ensures { EachCallAgrees }
-{
-    0
-}
+{}
 
-pub fn each_run_agrees() -> u8
+pub fn each_run_agrees()
     ensures { EachRunAgrees }
-{
-    0
-}
+{}

@@ -15,7 +15,8 @@ use Rattle.book.specs.Nodes
 use Rattle.sheet.specs.declared.sheet.Sheet.{Sheet}
 use Rattle.layout.specs.declared.row.TypeRow.{TypeRow}
 use Rattle.layout.specs.Kept.{nodes_of}
-use Rattle.forms.specs.Forms.{book_in, bare_by, bare_text, Paired}
+use Rattle.forms.specs.Forms.{bare_by, bare_text, Paired}
+use Rattle.sheet.specs.Seen.{book_in}
 use Rattle.forms.specs.Steps.{node_in, fields_from}
 use Rattle.forms.specs.Spans.{Inside}
 use Rattle.forms.proofs.Texts.{row_known, row_shape}

@@ -11,7 +11,7 @@ use Rattle.layout.specs.declared.row.FieldRow.{FieldRow}
 use Rattle.layout.specs.Kept.{node_by, fields_in}
 use Rattle.forms.specs.declared.bytes.Step.{Step}
 use Rattle.forms.specs.declared.bytes.Step.TheVariants.{Done, Part}
-use Rattle.forms.specs.Forms.{book_in}
+use Rattle.sheet.specs.Seen.{book_in}
 use Rattle.forms.specs.Steps.{node_text, parts_of, node_in, fields_from, FieldHere, Within, Leads}
 use Rattle.forms.proofs.At.{at_behind, at_left, at_right, at_last, at_none}
 use Rattle.forms.proofs.Texts.{no_fields_are, field_here, row_text, row_part}

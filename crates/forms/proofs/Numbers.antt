@@ -9,11 +9,11 @@ use Rattle.book.proofs.Questions.{texts_count, equal_agrees}
 use Rattle.sheet.specs.declared.sheet.Sheet.{Sheet}
 use Rattle.layout.specs.Kept.{nodes_of}
 use Rattle.sheet.proofs.Texts.{good_book}
-use Rattle.forms.specs.Forms.{book_in}
+use Rattle.sheet.specs.Seen.{book_in}
 
 -- Two known numbers with the same text are equal.
 pub one_number : (s : Sheet) (m n : ℕ) → m < 15 + length (book_in s) → n < 15 + length (book_in s) → text_of (book_in s) m ≡ text_of (book_in s) n → m ≡ n
-unfolding equal_of book_in
+unfolding equal_of
 one_number s m n p q e =
     let ns = nodes_of s.types s.fields in
     let k = texts_count ns (good_book s) in

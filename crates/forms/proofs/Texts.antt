@@ -25,7 +25,7 @@ use Rattle.layout.proofs.Laying.{tails_long, tails_at_is}
 use Rattle.layout.proofs.Step.{node_at}
 use Rattle.sheet.proofs.Texts.{good_book, count, stands}
 use Rattle.forms.specs.declared.spans.Span.{Span}
-use Rattle.forms.specs.Forms.{book_in}
+use Rattle.sheet.specs.Seen.{book_in}
 use Rattle.forms.specs.Spans.{bytes_in}
 use Rattle.forms.specs.Steps.{node_text, parts_of, node_in, fields_from, FieldHere}
 
@@ -67,14 +67,12 @@ module _ (s : Sheet) where
   ss = shapes_from [] ns
 
   pub book_long : length (book_in s) ≡ s.types.count
-  unfolding book_in
   book_long = sym (stands s).types_count
 
   shapes_long : length ss ≡ s.types.count
   shapes_long = sym (as_many ns ss (good_sound ns (good_book s))) ∙ count s
 
   part_text : (m : ℕ) → Part (length ss) m → text_of (book_in s) m ≡ printed (shape_at ss m)
-  unfolding book_in
   part_text m p = text_is ss m p
 
   parts_text : (fs : List ℕ) → Parts (length ss) fs → texts (book_in s) fs ≡ printed_all (shapes_at ss fs)
@@ -109,7 +107,6 @@ module _ (s : Sheet) where
         (subst (λ (k : ℕ). Known k (get_or ns (n - 15) (node_in s blank_type))) z (chain_at ns 0 (node_in s blank_type) (good_book s).chain (n - 15) (omega (arith, low, count s))))
 
     pub row_shape : text_of (book_in s) n ≡ printed (node_shape ss (node_in s x))
-    unfolding book_in
     row_shape = text_at ns (good_book s) n (node_in s blank_type) h (omega (arith, low, count s)) ∙ ap (λ (y : Node). printed (node_shape ss y)) node_is
 
     pub row_text : text_of (book_in s) n ≡ node_text (book_in s) (node_in s x)

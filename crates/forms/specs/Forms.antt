@@ -5,14 +5,8 @@ use Rattle.std.specs.List.{slice_get}
 use Rattle.grammar.specs.Shape.{Text, Shape, basic, array, maybe, dict, structure, more, printed_all}
 use Rattle.grammar.specs.Read.{reading}
 use Rattle.grammar.specs.Refusals.{Outcome, accepted}
-use Rattle.sheet.specs.declared.sheet.Sheet.{Sheet}
-use Rattle.layout.specs.Called.{book_of}
 use Rattle.book.specs.Plain.{text_of}
 use Rattle.book.specs.Questions.{if_known}
-
--- the texts of the containers on a sheet
-unfoldable pub book_in : Sheet → List Text
-book_in s = book_of s.types s.fields
 
 -- A text without the outermost pair of parentheses, where it is a structure's; any other text is left as it is.
 abbrev pub bare_by : Option Shape → Text → Text

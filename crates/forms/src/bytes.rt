@@ -3,7 +3,8 @@ ghost use Rattle.std.specs.Prelude.{◌≡◌, ◌+◌, ◌<◌, List, [], ◌�
 ghost use Rattle.grammar.specs.Refusals.{outcome};
 ghost use Rattle.grammar.specs.Shape.{Text};
 ghost use Rattle.book.specs.Plain.{text_of, texts};
-ghost use Rattle.forms.specs.Forms.{book_in, byte_of};
+ghost use Rattle.forms.specs.Forms.{byte_of};
+ghost use Rattle.sheet.specs.Seen.{book_in};
 ghost use Rattle.forms.specs.Steps.{node_text, parts_of, node_in, fields_from, Leads, FieldHere};
 
 use grammar::error::Refusal;

@@ -1,7 +1,8 @@
 // Where the forms of a signature stand in its printed form.
 ghost use Rattle.std.specs.Prelude.{◌≡◌, MatchResult};
 ghost use Rattle.book.specs.Plain.{text_of};
-ghost use Rattle.forms.specs.Forms.{book_in, bare_text, Paired};
+ghost use Rattle.forms.specs.Forms.{bare_text, Paired};
+ghost use Rattle.sheet.specs.Seen.{book_in};
 ghost use Rattle.forms.specs.Spans.{Covers, NotKnown};
 
 use crate::bytes::{is_known, length_of};

@@ -15,3 +15,16 @@ pub struct Figures {
     // Whether the signature is or holds a maybe.
     pub maybe: bool,
 }
+
+impl Figures {
+    // The figures of nothing.
+    pub const NONE: Figures = Figures {
+        length: 0,
+        structures: 0,
+        arrays: 0,
+        dbus: 0,
+        gvariant: 0,
+        fixed: false,
+        maybe: false,
+    };
+}

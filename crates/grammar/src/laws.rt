@@ -1,38 +1,26 @@
 // The laws of the grammar: each function stands for the theorem in its contract.
 ghost use Rattle.grammar.specs.Laws.{PrefixFree, UniqueReading, ExactlyOneFault, BareStructure, ScanIsExact, ReadingIsExact};
 
-pub fn prefix_free() -> u8
+pub fn prefix_free()
     ensures { PrefixFree }
-{
-    0
-}
+{}
 
-pub fn unique_reading() -> u8
+pub fn unique_reading()
     ensures { UniqueReading }
-{
-    0
-}
+{}
 
-pub fn one_fault() -> u8
+pub fn one_fault()
     ensures { ExactlyOneFault }
-{
-    0
-}
+{}
 
-pub fn bare_structure() -> u8
+pub fn bare_structure()
     ensures { BareStructure }
-{
-    0
-}
+{}
 
-pub fn scan_is_exact() -> u8
+pub fn scan_is_exact()
     ensures { ScanIsExact }
-{
-    0
-}
+{}
 
-pub fn reading_is_exact() -> u8
+pub fn reading_is_exact()
     ensures { ReadingIsExact }
-{
-    0
-}
+{}

@@ -1,6 +1,8 @@
 // The grammar of D-Bus and GVariant signatures: its definitions and laws, and what a call says when it refuses.
 #![tactic(auto)]
 
+pub mod codes;
 pub mod error;
 pub mod figures;
 pub mod laws;
+pub mod limits;

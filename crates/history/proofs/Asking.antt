@@ -11,7 +11,7 @@ use Rattle.book.specs.Questions.{figure_of, alignment, alignment_in, alignment_o
 use Rattle.sheet.specs.declared.sheet.Sheet.{Sheet}
 use Rattle.layout.specs.Called.{book_of}
 use Rattle.printing.specs.declared.printing.Printed.{Printed}
-use Rattle.forms.specs.Forms.{book_in}
+use Rattle.sheet.specs.Seen.{book_in}
 use Rattle.printing.specs.Forms.{taken_of, written_of}
 use Rattle.history.specs.Account.{account_of}
 
@@ -48,7 +48,7 @@ module _ (s : Sheet) (n : ℕ) where
   -- A question to the same sheet.
   module _ {A : Type 0} (s' : Sheet) (same : s' ≡ s) (f : Figures → A) where
     asked_here : figure_of f (book_of s'.types s'.fields) n ≡ cond (ltb n (15 + length (book_in s))) (accepted (f figures_here)) (refused 3 (0 ∷ []))
-    unfolding figure_of book_in
+    unfolding figure_of
     asked_here = ap (λ (z : Sheet). figure_of f (book_of z.types z.fields) n) same
 
     pub answered : (x : A) → accepted x ≡ figure_of f (book_of s'.types s'.fields) n → Here × (x ≡ f figures_here)
@@ -66,7 +66,7 @@ module _ (s : Sheet) (n : ℕ) where
   aligned a false (Err x) e h = let z : ◌≡◌ {A = ℕ} 0 1 = ap is_accepted h in absurd (omega arith)
 
   pub alignment_here : (s' : Sheet) → s' ≡ s → (format : Format) (r : Result ℕ Refusal) → Here → outcome r ≡ alignment_of format (book_of s'.types s'.fields) n → result_unwrap_or r 0 ≡ alignment_in format figures_here
-  unfolding alignment_of book_in
+  unfolding alignment_of
   alignment_here s' same format r k h =
       aligned (alignment_in format figures_here) (eqb (alignment_in format figures_here) 0) r refl
       (h ∙ ap (λ (z : Sheet). alignment_of format (book_of z.types z.fields) n) same ∙ ap (λ (z : Bool). cond z (alignment (alignment_in format figures_here)) (refused 3 (0 ∷ []))) k)

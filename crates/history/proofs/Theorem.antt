@@ -20,7 +20,7 @@ use Rattle.layout.specs.declared.row.TypeRow.{TypeRow}
 use Rattle.layout.specs.declared.row.FieldRow.{FieldRow}
 use Rattle.layout.specs.Kept.{types_in, figures_in}
 use Rattle.layout.specs.Called.{book_of, limits_of, Stands, Opened}
-use Rattle.forms.specs.Forms.{book_in}
+use Rattle.sheet.specs.Seen.{book_in}
 use Rattle.printing.specs.Forms.{taken_of}
 use Rattle.history.specs.declared.account.Account.{Account}
 use Rattle.history.specs.Calls.{Recorded}
@@ -124,7 +124,6 @@ pub filed_as : (types fields : ℕ) (cs : List Call) (s s' : Sheet) → s' ≡ s
 filed_as types fields cs s s' e h = subst (λ (z : Sheet). Filed types fields cs z.types z.fields) (sym e) h
 
 pub book_as : (b : List Text) (s s' : Sheet) → s' ≡ s → book_of s.types s.fields ≡ b → book_in s' ≡ b
-unfolding book_in
 book_as b s s' e h = ap (λ (z : Sheet). book_of z.types z.fields) e ∙ h
 
 pub accounted_as : {b b₁ : List Text} {n : ℕ} {a : Outcome Account} {v : List ℕ → ℕ → Bool} {c past : List ℕ} {at : ℕ} {v' : List ℕ → ℕ → Bool} {c' past' : List ℕ} {at' : ℕ} → b₁ ≡ b

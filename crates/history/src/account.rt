@@ -1,7 +1,7 @@
 // The account of a number: its printed form, offered to a writer, and its figures.
 ghost use Rattle.std.specs.Prelude.{◌≡◌};
 ghost use Rattle.grammar.specs.Refusals.{outcome};
-ghost use Rattle.forms.specs.Forms.{book_in};
+ghost use Rattle.sheet.specs.Seen.{book_in};
 ghost use Rattle.printing.specs.Forms.{OnRefusal};
 ghost use Rattle.history.specs.Account.{all_figures, Accounted};
 

@@ -1,7 +1,7 @@
 // Calls that may alter a sheet, as values.
 ghost use Rattle.std.specs.Prelude.{◌≡◌};
 ghost use Rattle.grammar.specs.Refusals.{outcome};
-ghost use Rattle.layout.specs.Called.{Called};
+ghost use Rattle.sheet.specs.Seen.{CalledOn};
 ghost use Rattle.history.specs.Calls.{call_of, calls_of};
 ghost use Rattle.history.specs.Ran.{Ran};
 
@@ -20,7 +20,7 @@ pub enum Call<'a> {
 
 // Makes the call on the sheet.
 pub fn make(sheet: &mut Sheet, call: &Call) -> Result<u16, Refusal>
-    ensures { Called sheet.old.types sheet.old.fields sheet.new.types sheet.new.fields (outcome result) (call_of call.now) }
+    ensures { CalledOn sheet.old sheet.new (outcome result) (call_of call.now) }
 {
     match call {
         Call::FromBytes(text) => sheet.from_bytes(text),

@@ -20,7 +20,7 @@ use Rattle.sheet.specs.declared.sheet.Sheet.{Sheet}
 use Rattle.layout.specs.Kept.{nodes_of}
 use Rattle.layout.specs.Called.{book_of, limits_of, Called}
 use Rattle.sheet.proofs.Texts.{good_book}
-use Rattle.forms.specs.Forms.{book_in}
+use Rattle.sheet.specs.Seen.{book_in}
 use Rattle.printing.specs.Forms.{into_of}
 
 abbrev value : Outcome ℕ → ℕ → ℕ
@@ -52,7 +52,6 @@ backed : (s : Sheet) → Backed (book_of s.types s.fields)
 backed s = record { ns = nodes_of s.types s.fields; ss = shapes_from [] (nodes_of s.types s.fields); sound = good_sound (nodes_of s.types s.fields) (good_book s); texts = refl }
 
 pub known_after : (s s' : Sheet) (n : ℕ) (c : Call) → Called s.types s.fields s'.types s'.fields (accepted n) c → ltb n (15 + length (book_in s')) ≡ true
-unfolding book_in
 known_after s s' n c m =
     let l = limits_of s.types s.fields in
     let b = book_of s.types s.fields in
@@ -80,7 +79,6 @@ shape_long w (inl e) = subst (λ (z : Text). (text_figures z).length ≡ length 
 shape_long w (inr (t, e)) = subst (λ (z : Text). (text_figures z).length ≡ length z) e (ap (λ (o : Option Shape). (figures_by o).length) (reading_printed t))
 
 pub text_long : (s : Sheet) (n : ℕ) → ltb n (15 + length (book_in s)) ≡ true → (text_figures (text_of (book_in s) n)).length ≡ length (text_of (book_in s) n)
-unfolding book_in
 text_long s n k =
     let b = book_of s.types s.fields in
     let l : n < length (known (book_of s.types s.fields)) = omega (arith, ltb-true n (15 + length (book_of s.types s.fields)) k) in
@@ -94,5 +92,4 @@ pub called_as : (s s₁ s₂ : Sheet) (r : Answer) (c : Call) → s₂ ≡ s₁ 
 called_as s s₁ s₂ r c e h = subst (λ (z : Sheet). Called s.types s.fields z.types z.fields r c) (sym e) h
 
 pub book_shown : {A : Type 0} (f : List Text → A) (s s' : Sheet) → s' ≡ s → f (book_in s) ≡ f (book_of s'.types s'.fields)
-unfolding book_in
 book_shown f s s' e = sym (ap (λ (z : Sheet). f (book_of z.types z.fields)) e)

@@ -2,8 +2,7 @@
 ghost use Rattle.std.specs.Prelude.{◌≡◌, ◌+◌, true, length, nat_lt};
 ghost use Rattle.grammar.specs.Refusals.{outcome};
 ghost use Rattle.book.specs.Plain.{from_bytes as from_bytes_of, text_of};
-ghost use Rattle.forms.specs.Forms.{book_in};
-ghost use Rattle.layout.specs.Called.{book_of, Called};
+ghost use Rattle.sheet.specs.Seen.{book_in, CalledOn};
 ghost use Rattle.intake.specs.Filing.{number_in, Told};
 
 use crate::filed::Filed;
@@ -34,8 +33,8 @@ pub fn file<'a>(
     line: &[u8],
     form: &'a mut [u8; LONGEST_FORM],
 ) -> Result<Filed<'a>, Refusal>
-    ensures called { Called sheet.old.types sheet.old.fields sheet.new.types sheet.new.fields (number_in (outcome result)) (from_bytes_of line.now) }
-    ensures told { Told (book_of sheet.new.types sheet.new.fields) (outcome result) }
+    ensures called { CalledOn sheet.old sheet.new (number_in (outcome result)) (from_bytes_of line.now) }
+    ensures told { Told (book_in sheet.new) (outcome result) }
 {
     let number = sheet.from_bytes(line)?;
     let figures = figures_of(sheet, number)?;

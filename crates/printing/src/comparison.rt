@@ -2,7 +2,7 @@
 ghost use Rattle.std.specs.Prelude.{◌≡◌};
 ghost use Rattle.grammar.specs.Refusals.{outcome};
 ghost use Rattle.book.specs.Plain.{same_text, text_of};
-ghost use Rattle.forms.specs.Forms.{book_in};
+ghost use Rattle.sheet.specs.Seen.{book_in};
 ghost use Rattle.printing.specs.Forms.{eq_text_of};
 ghost use Rattle.forms.specs.Spans.{bytes_in, Inside};
 

@@ -3,7 +3,8 @@ ghost use Rattle.std.specs.Prelude.{◌≡◌, length, take};
 ghost use Rattle.grammar.specs.Refusals.{outcome};
 ghost use Rattle.book.specs.Plain.{text_of};
 ghost use Rattle.writers.specs.State.{Took, Wrote};
-ghost use Rattle.forms.specs.Forms.{book_in, bare_text};
+ghost use Rattle.forms.specs.Forms.{bare_text};
+ghost use Rattle.sheet.specs.Seen.{book_in};
 ghost use Rattle.printing.specs.Forms.{written_of, count_in, OnRefusal, filling, into_of, into_after};
 ghost use Rattle.forms.specs.Spans.{bytes_in, Inside};
 

@@ -1,11 +1,11 @@
 // The parts of a container that is no structure.
 ghost use Rattle.std.specs.Prelude.{◌≡◌, MatchResult};
 ghost use Rattle.grammar.specs.Refusals.{outcome};
-ghost use Rattle.layout.specs.Kept.{nodes_of, fields_in};
+ghost use Rattle.layout.specs.Kept.{fields_in};
 ghost use Rattle.layout.specs.Figured.{NotKnown};
 ghost use Rattle.layout.specs.Asked.{Shown};
-ghost use Rattle.layout.specs.Called.{book_of};
 ghost use Rattle.book.specs.Questions.{child_of, key_of, value_of};
+ghost use Rattle.sheet.specs.Seen.{book_in, nodes_on};
 
 use crate::sheet::Sheet;
 use grammar::error::Refusal;
@@ -15,7 +15,7 @@ impl<'a> Sheet<'a> {
     // The row of the number `n`; a blank one for Unit and the basic codes, which have none.
     pub(crate) fn container(&mut self, n: u16) -> Result<TypeRow, Refusal>
         ensures same { self.new ≡ self.old }
-        ensures row { MatchResult result (λ x. Shown (nodes_of self.old.types self.old.fields) (fields_in self.old.fields) n x) (λ e. NotKnown (nodes_of self.old.types self.old.fields) n 0 e) }
+        ensures row { MatchResult result (λ x. Shown (nodes_on self.old) (fields_in self.old.fields) n x) (λ e. NotKnown (nodes_on self.old) n 0 e) }
     {
         if n < 15 {
             return Ok(TypeRow::BLANK);
@@ -29,7 +29,7 @@ impl<'a> Sheet<'a> {
     // The child of an array or a maybe.
     pub fn child(&mut self, n: u16) -> Result<u16, Refusal>
         ensures same { self.new ≡ self.old }
-        ensures answer { outcome result ≡ child_of (book_of self.old.types self.old.fields) n }
+        ensures answer { outcome result ≡ child_of (book_in self.old) n }
     {
         let row = self.container(n)?;
         if row.kind == ARRAY || row.kind == MAYBE {
@@ -42,7 +42,7 @@ impl<'a> Sheet<'a> {
     // The key of a dictionary.
     pub fn key(&mut self, n: u16) -> Result<u16, Refusal>
         ensures same { self.new ≡ self.old }
-        ensures answer { outcome result ≡ key_of (book_of self.old.types self.old.fields) n }
+        ensures answer { outcome result ≡ key_of (book_in self.old) n }
     {
         let pair = self.container(n)?;
         if pair.kind == DICT {
@@ -55,7 +55,7 @@ impl<'a> Sheet<'a> {
     // The value of a dictionary.
     pub fn value(&mut self, n: u16) -> Result<u16, Refusal>
         ensures same { self.new ≡ self.old }
-        ensures answer { outcome result ≡ value_of (book_of self.old.types self.old.fields) n }
+        ensures answer { outcome result ≡ value_of (book_in self.old) n }
     {
         let row = self.container(n)?;
         if row.kind == DICT {

@@ -5,8 +5,7 @@
 ghost use Rattle.std.specs.Prelude.{◌≡◌, ℕ, ◌+◌, ◌-◌, ◌<◌, ◌≤◌, true, length, take, IfOk};
 ghost use Rattle.grammar.specs.Shape.{is_basic};
 ghost use Rattle.building.specs.Building.{CodeNumber, Builds, BuildsBare, BuildsFields, BuildsWhole, Skips, Wraps};
-ghost use Rattle.layout.specs.Grown.{Grew};
-ghost use Rattle.layout.specs.Called.{book_of, limits_of};
+ghost use Rattle.sheet.specs.Seen.{book_in, limits_in, GrewTo};
 
 use crate::sheet::Sheet;
 use grammar::error::Refusal;
@@ -40,8 +39,8 @@ fn skip_maybes(cursor: &mut Cursor) -> usize
 
 // `n` behind so many `m`.
 fn wrap(sheet: &mut Sheet, n: u16, maybes: usize) -> Result<u16, Refusal>
-    ensures grew { Grew sheet.old.types sheet.old.fields sheet.new.types sheet.new.fields }
-    ensures wraps { Wraps (limits_of sheet.old.types sheet.old.fields) maybes n (book_of sheet.old.types sheet.old.fields) result (book_of sheet.new.types sheet.new.fields) }
+    ensures grew { GrewTo sheet.old sheet.new }
+    ensures wraps { Wraps (limits_in sheet.old) maybes n (book_in sheet.old) result (book_in sheet.new) }
 {
     let mut n = n;
     for _i in 0..maybes {
@@ -62,8 +61,8 @@ fn many(
     ensures text { cursor.new.text.now ≡ cursor.old.text.now }
     ensures forward { IfOk result (λ n. cursor.old.at < cursor.new.at) }
     ensures kept { take base pending.new ≡ take base pending.old }
-    ensures grew { Grew sheet.old.types sheet.old.fields sheet.new.types sheet.new.fields }
-    ensures builds { BuildsFields (limits_of sheet.old.types sheet.old.fields) cursor.old.text.now cursor.old.at (book_of sheet.old.types sheet.old.fields) result cursor.new.at (book_of sheet.new.types sheet.new.fields) }
+    ensures grew { GrewTo sheet.old sheet.new }
+    ensures builds { BuildsFields (limits_in sheet.old) cursor.old.text.now cursor.old.at (book_in sheet.old) result cursor.new.at (book_in sheet.new) }
 {
     let mut top = base;
     while !cursor.eat(b')') {
@@ -86,8 +85,8 @@ fn bare_signature(
     ensures text { cursor.new.text.now ≡ cursor.old.text.now }
     ensures forward { IfOk result (λ n. cursor.old.at < cursor.new.at) }
     ensures kept { take top pending.new ≡ take top pending.old }
-    ensures grew { Grew sheet.old.types sheet.old.fields sheet.new.types sheet.new.fields }
-    ensures builds { BuildsBare (limits_of sheet.old.types sheet.old.fields) cursor.old.text.now cursor.old.at (book_of sheet.old.types sheet.old.fields) result cursor.new.at (book_of sheet.new.types sheet.new.fields) }
+    ensures grew { GrewTo sheet.old sheet.new }
+    ensures builds { BuildsBare (limits_in sheet.old) cursor.old.text.now cursor.old.at (book_in sheet.old) result cursor.new.at (book_in sheet.new) }
 {
     let Some(b) = cursor.take() else {
         return Err(Refusal::NoRows);
@@ -121,8 +120,8 @@ fn signature(
     ensures text { cursor.new.text.now ≡ cursor.old.text.now }
     ensures forward { IfOk result (λ n. cursor.old.at < cursor.new.at) }
     ensures kept { take top pending.new ≡ take top pending.old }
-    ensures grew { Grew sheet.old.types sheet.old.fields sheet.new.types sheet.new.fields }
-    ensures builds { Builds (limits_of sheet.old.types sheet.old.fields) cursor.old.text.now cursor.old.at (book_of sheet.old.types sheet.old.fields) result cursor.new.at (book_of sheet.new.types sheet.new.fields) }
+    ensures grew { GrewTo sheet.old sheet.new }
+    ensures builds { Builds (limits_in sheet.old) cursor.old.text.now cursor.old.at (book_in sheet.old) result cursor.new.at (book_in sheet.new) }
 {
     let maybes = skip_maybes(cursor);
     let n = bare_signature(sheet, cursor, pending, top)?;
@@ -132,8 +131,8 @@ fn signature(
 // All types of the text, and the number of the whole.
 pub(crate) fn whole(sheet: &mut Sheet, text: &[u8], pending: &mut [u16]) -> Result<u16, Refusal>
     requires room { length text.now ≤ length pending.old }
-    ensures grew { Grew sheet.old.types sheet.old.fields sheet.new.types sheet.new.fields }
-    ensures builds { BuildsWhole (limits_of sheet.old.types sheet.old.fields) text.now (book_of sheet.old.types sheet.old.fields) result (book_of sheet.new.types sheet.new.fields) }
+    ensures grew { GrewTo sheet.old sheet.new }
+    ensures builds { BuildsWhole (limits_in sheet.old) text.now (book_in sheet.old) result (book_in sheet.new) }
 {
     let mut cursor = Cursor::new(text);
     let mut top = 0;

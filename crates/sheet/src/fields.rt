@@ -1,10 +1,9 @@
 // The fields of a structure.
 ghost use Rattle.std.specs.Prelude.{◌≡◌, [], ◌∷◌, MatchOption};
 ghost use Rattle.grammar.specs.Refusals.{outcome};
-ghost use Rattle.layout.specs.Kept.{tails_in};
 ghost use Rattle.layout.specs.Tails.{tail_at};
-ghost use Rattle.layout.specs.Called.{book_of};
 ghost use Rattle.book.specs.Questions.{len_of, get_of};
+ghost use Rattle.sheet.specs.Seen.{book_in, tails_on};
 
 use crate::sheet::Sheet;
 use grammar::error::Refusal;
@@ -14,7 +13,7 @@ impl<'a> Sheet<'a> {
     // How many fields a structure has.
     pub fn len(&mut self, n: u16) -> Result<u16, Refusal>
         ensures same { self.new ≡ self.old }
-        ensures answer { outcome result ≡ len_of (book_of self.old.types self.old.fields) n }
+        ensures answer { outcome result ≡ len_of (book_in self.old) n }
     {
         let row = self.container(n)?;
         if row.kind == STRUCTURE {
@@ -27,7 +26,7 @@ impl<'a> Sheet<'a> {
     // The field at `i`, counted from 0, or none past the end.
     pub fn get(&mut self, n: u16, i: usize) -> Result<Option<u16>, Refusal>
         ensures same { self.new ≡ self.old }
-        ensures answer { outcome result ≡ get_of (book_of self.old.types self.old.fields) n i }
+        ensures answer { outcome result ≡ get_of (book_in self.old) n i }
     {
         let row = self.container(n)?;
         if row.kind != STRUCTURE {
@@ -49,7 +48,7 @@ impl<'a> Sheet<'a> {
     // The field row with the number `n`, from 1; 0 has none.
     fn numbered(&mut self, n: u16) -> Option<FieldRow>
         ensures same { self.new ≡ self.old }
-        ensures row { MatchOption result (tail_at (tails_in self.old.fields) n ≡ []) (λ x. tail_at (tails_in self.old.fields) n ≡ x.field ∷ tail_at (tails_in self.old.fields) x.next) }
+        ensures row { MatchOption result (tail_at (tails_on self.old) n ≡ []) (λ x. tail_at (tails_on self.old) n ≡ x.field ∷ tail_at (tails_on self.old) x.next) }
     {
         if n == 0 {
             None

@@ -2,11 +2,10 @@
 ghost use Rattle.std.specs.Prelude.{◌≡◌, ◌<◌, MatchResult, slice_index_or};
 ghost use Rattle.book.specs.Nodes.{first_figures, blank_figures, array_figures, dict_figures, structure_figures};
 ghost use Rattle.layout.specs.Figured.{Bounded, Short, Long, Figured, NotKnown};
-ghost use Rattle.layout.specs.Kept.{nodes_of};
-ghost use Rattle.layout.specs.Called.{book_of};
 ghost use Rattle.layout.specs.Format.{format_of};
 ghost use Rattle.book.specs.Questions.{string_length_of, fixed_of, maybe_of, depths_of, alignment_in, alignment_of};
 ghost use Rattle.grammar.specs.Refusals.{outcome};
+ghost use Rattle.sheet.specs.Seen.{book_in, nodes_on};
 
 use crate::sheet::Sheet;
 use grammar::error::Refusal;
@@ -61,7 +60,7 @@ impl<'a> Sheet<'a> {
     // The figures of the number `n`, which stands at `position` among the numbers given.
     pub(crate) fn figures(&mut self, n: u16, position: usize) -> Result<Figures, Refusal>
         ensures same { self.new ≡ self.old }
-        ensures figures { MatchResult result (λ f. Figured (nodes_of self.old.types self.old.fields) n f) (λ e. NotKnown (nodes_of self.old.types self.old.fields) n position e) }
+        ensures figures { MatchResult result (λ f. Figured (nodes_on self.old) n f) (λ e. NotKnown (nodes_on self.old) n position e) }
     {
         if n < 15 {
             return Ok(first_figures(n as usize));
@@ -75,7 +74,7 @@ impl<'a> Sheet<'a> {
     // The length of the printed form.
     pub fn string_len(&mut self, n: u16) -> Result<u16, Refusal>
         ensures same { self.new ≡ self.old }
-        ensures answer { outcome result ≡ string_length_of (book_of self.old.types self.old.fields) n }
+        ensures answer { outcome result ≡ string_length_of (book_in self.old) n }
     {
         let figures = self.figures(n, 0)?;
         Ok(figures.length)
@@ -84,7 +83,7 @@ impl<'a> Sheet<'a> {
     // The alignment in a format; a maybe has none in D-Bus.
     pub fn alignment(&mut self, n: u16, format: Format) -> Result<u8, Refusal>
         ensures same { self.new ≡ self.old }
-        ensures answer { outcome result ≡ alignment_of (format_of format) (book_of self.old.types self.old.fields) n }
+        ensures answer { outcome result ≡ alignment_of (format_of format) (book_in self.old) n }
     {
         let figures = self.figures(n, 0)?;
         let alignment = alignment_in(figures, format);
@@ -98,7 +97,7 @@ impl<'a> Sheet<'a> {
     // Whether each value has the same size.
     pub fn is_fixed_sized(&mut self, n: u16) -> Result<bool, Refusal>
         ensures same { self.new ≡ self.old }
-        ensures answer { outcome result ≡ fixed_of (book_of self.old.types self.old.fields) n }
+        ensures answer { outcome result ≡ fixed_of (book_in self.old) n }
     {
         let figures = self.figures(n, 0)?;
         Ok(figures.fixed)
@@ -107,7 +106,7 @@ impl<'a> Sheet<'a> {
     // Whether the signature is or holds a maybe.
     pub fn contains_maybe(&mut self, n: u16) -> Result<bool, Refusal>
         ensures same { self.new ≡ self.old }
-        ensures answer { outcome result ≡ maybe_of (book_of self.old.types self.old.fields) n }
+        ensures answer { outcome result ≡ maybe_of (book_in self.old) n }
     {
         let figures = self.figures(n, 0)?;
         Ok(figures.maybe)
@@ -116,7 +115,7 @@ impl<'a> Sheet<'a> {
     // How deep structures are nested, and how deep arrays and dictionaries.
     pub fn depths(&mut self, n: u16) -> Result<(u16, u16), Refusal>
         ensures same { self.new ≡ self.old }
-        ensures answer { outcome result ≡ depths_of (book_of self.old.types self.old.fields) n }
+        ensures answer { outcome result ≡ depths_of (book_in self.old) n }
     {
         let figures = self.figures(n, 0)?;
         Ok((figures.structures, figures.arrays))

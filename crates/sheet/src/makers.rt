@@ -3,12 +3,12 @@ ghost use Rattle.std.specs.Prelude.{◌≡◌, ◌+◌, ◌<◌, [], length, Mat
 ghost use Rattle.grammar.specs.Refusals.{outcome};
 ghost use Rattle.book.specs.Nodes.{fields_of, field_figures, figures_from};
 ghost use Rattle.book.specs.Makers.{placed, array_call, maybe_call, dict_call, structure_placed, structure_call};
-ghost use Rattle.layout.specs.Kept.{Fit, nodes_of, tails_in, types_in, fields_in, node_of};
-ghost use Rattle.layout.specs.Made.{Made, with_tails};
-ghost use Rattle.layout.specs.Called.{Called};
+ghost use Rattle.layout.specs.Kept.{Fit, types_in, fields_in, node_of};
+ghost use Rattle.layout.specs.Made.{with_tails};
 ghost use Rattle.book.specs.Plain.{array as array_of, maybe as maybe_of, dict as dict_of, structure as structure_of};
 ghost use Rattle.layout.specs.Figured.{Short, Long};
 ghost use Rattle.layout.specs.Structured.{AllParts, Structured};
+ghost use Rattle.sheet.specs.Seen.{nodes_on, tails_on, CalledOn, MadeOn};
 
 use crate::figures::{array_figures, dict_figures, structure_figures};
 use crate::lay::{all_known, file_structure, no_unit};
@@ -34,7 +34,7 @@ impl<'a> Sheet<'a> {
     fn enter(&mut self, row: TypeRow) -> Result<u16, Refusal>
         requires fit { Fit (types_in self.old.types) (fields_in self.old.fields) row }
         requires plain { fields_of (node_of (fields_in self.old.fields) row) ≡ [] }
-        ensures { Made self.old.types self.old.fields self.new.types self.new.fields (outcome result) (with_tails (tails_in self.old.fields) (placed self.old.types.cap (nodes_of self.old.types self.old.fields) (node_of (fields_in self.old.fields) row))) }
+        ensures { MadeOn self.old self.new (outcome result) (with_tails (tails_on self.old) (placed self.old.types.cap (nodes_on self.old) (node_of (fields_in self.old.fields) row))) }
     {
         match self.types.find_or_add(row) {
             Some(i) => Ok(15 + i as u16),
@@ -44,8 +44,8 @@ impl<'a> Sheet<'a> {
 
     // The array of the number `n`.
     pub fn array(&mut self, n: u16) -> Result<u16, Refusal>
-        ensures called { Called self.old.types self.old.fields self.new.types self.new.fields (outcome result) (array_of n) }
-        ensures made { Made self.old.types self.old.fields self.new.types self.new.fields (outcome result) (with_tails (tails_in self.old.fields) (array_call self.old.types.cap (nodes_of self.old.types self.old.fields) n)) }
+        ensures called { CalledOn self.old self.new (outcome result) (array_of n) }
+        ensures made { MadeOn self.old self.new (outcome result) (with_tails (tails_on self.old) (array_call self.old.types.cap (nodes_on self.old) n)) }
     {
         let part = self.figures(n, 0)?;
         if n == 0 {
@@ -62,8 +62,8 @@ impl<'a> Sheet<'a> {
 
     // The maybe of the number `n`.
     pub fn maybe(&mut self, n: u16) -> Result<u16, Refusal>
-        ensures called { Called self.old.types self.old.fields self.new.types self.new.fields (outcome result) (maybe_of n) }
-        ensures made { Made self.old.types self.old.fields self.new.types self.new.fields (outcome result) (with_tails (tails_in self.old.fields) (maybe_call self.old.types.cap (nodes_of self.old.types self.old.fields) n)) }
+        ensures called { CalledOn self.old self.new (outcome result) (maybe_of n) }
+        ensures made { MadeOn self.old self.new (outcome result) (with_tails (tails_on self.old) (maybe_call self.old.types.cap (nodes_on self.old) n)) }
     {
         let part = self.figures(n, 0)?;
         if n == 0 {
@@ -80,8 +80,8 @@ impl<'a> Sheet<'a> {
 
     // The dictionary of the numbers `k` and `v`.
     pub fn dict(&mut self, k: u16, v: u16) -> Result<u16, Refusal>
-        ensures called { Called self.old.types self.old.fields self.new.types self.new.fields (outcome result) (dict_of k v) }
-        ensures made { Made self.old.types self.old.fields self.new.types self.new.fields (outcome result) (with_tails (tails_in self.old.fields) (dict_call self.old.types.cap (nodes_of self.old.types self.old.fields) k v)) }
+        ensures called { CalledOn self.old self.new (outcome result) (dict_of k v) }
+        ensures made { MadeOn self.old self.new (outcome result) (with_tails (tails_on self.old) (dict_call self.old.types.cap (nodes_on self.old) k v)) }
     {
         let key = self.figures(k, 0)?;
         let value = self.figures(v, 1)?;
@@ -103,16 +103,16 @@ impl<'a> Sheet<'a> {
     // The number of the next new container; those below it are known.
     fn next_number(&mut self) -> usize
         ensures same { self.new ≡ self.old }
-        ensures number { result ≡ 15 + length (nodes_of self.old.types self.old.fields) }
+        ensures number { result ≡ 15 + length (nodes_on self.old) }
     {
         15 + self.counts().0
     }
 
     // The figures of the fields `fs` in a row.
     fn field_figures(&mut self, fs: &[u16]) -> Result<Figures, Refusal>
-        requires { AllParts (length (nodes_of self.old.types self.old.fields)) fs.now }
+        requires { AllParts (length (nodes_on self.old)) fs.now }
         ensures same { self.new ≡ self.old }
-        ensures figures { MatchResult result (λ f. Short (field_figures (figures_from [] (nodes_of self.old.types self.old.fields)) fs.now) f) (λ e. Long (field_figures (figures_from [] (nodes_of self.old.types self.old.fields)) fs.now) e) }
+        ensures figures { MatchResult result (λ f. Short (field_figures (figures_from [] (nodes_on self.old)) fs.now) f) (λ e. Long (field_figures (figures_from [] (nodes_on self.old)) fs.now) e) }
     {
         let mut all = NO_FIELDS;
         for i in (0..fs.len()).rev() {
@@ -125,15 +125,15 @@ impl<'a> Sheet<'a> {
     // The number of the structure of the fields `fs`, which has these figures; a new one is added.
     pub(crate) fn structure_of(&mut self, fs: &[u16], figures: Figures) -> Result<u16, Refusal>
         requires { Structured self.old.types self.old.fields fs.now figures }
-        ensures { Made self.old.types self.old.fields self.new.types self.new.fields (outcome result) (structure_placed self.old.types.cap self.old.fields.cap (nodes_of self.old.types self.old.fields) (tails_in self.old.fields) fs.now) }
+        ensures { MadeOn self.old self.new (outcome result) (structure_placed self.old.types.cap self.old.fields.cap (nodes_on self.old) (tails_on self.old) fs.now) }
     {
         file_structure(&mut self.types, &mut self.fields, fs, figures)
     }
 
     // The structure of the numbers `fs`.
     pub fn structure(&mut self, fs: &[u16]) -> Result<u16, Refusal>
-        ensures called { Called self.old.types self.old.fields self.new.types self.new.fields (outcome result) (structure_of fs.now) }
-        ensures made { Made self.old.types self.old.fields self.new.types self.new.fields (outcome result) (structure_call self.old.types.cap self.old.fields.cap (nodes_of self.old.types self.old.fields) (tails_in self.old.fields) fs.now) }
+        ensures called { CalledOn self.old self.new (outcome result) (structure_of fs.now) }
+        ensures made { MadeOn self.old self.new (outcome result) (structure_call self.old.types.cap self.old.fields.cap (nodes_on self.old) (tails_on self.old) fs.now) }
     {
         all_known(fs, self.next_number())?;
         no_unit(fs)?;

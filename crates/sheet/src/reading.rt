@@ -3,8 +3,7 @@ ghost use Rattle.std.specs.Prelude.{◌≤◌, length};
 ghost use Rattle.grammar.specs.Refusals.{outcome};
 ghost use Rattle.book.specs.Plain.{from_bytes as from_bytes_of};
 ghost use Rattle.building.specs.Building.{BuildsWhole};
-ghost use Rattle.layout.specs.Grown.{Grew};
-ghost use Rattle.layout.specs.Called.{book_of, limits_of, Called};
+ghost use Rattle.sheet.specs.Seen.{book_in, limits_in, CalledOn, GrewTo};
 
 use crate::entering::whole;
 use crate::sheet::Sheet;
@@ -20,8 +19,8 @@ const FEW: usize = 256;
 // A text of at most `FEW` bytes.
 fn short(sheet: &mut Sheet, text: &[u8]) -> Result<u16, Refusal>
     requires room { length text.now ≤ 256 }
-    ensures grew { Grew sheet.old.types sheet.old.fields sheet.new.types sheet.new.fields }
-    ensures builds { BuildsWhole (limits_of sheet.old.types sheet.old.fields) text.now (book_of sheet.old.types sheet.old.fields) result (book_of sheet.new.types sheet.new.fields) }
+    ensures grew { GrewTo sheet.old sheet.new }
+    ensures builds { BuildsWhole (limits_in sheet.old) text.now (book_in sheet.old) result (book_in sheet.new) }
 {
     let mut pending = [0u16; 256];
     whole(sheet, text, &mut pending)
@@ -29,8 +28,8 @@ fn short(sheet: &mut Sheet, text: &[u8]) -> Result<u16, Refusal>
 
 fn long(sheet: &mut Sheet, text: &[u8]) -> Result<u16, Refusal>
     requires room { length text.now ≤ 65535 }
-    ensures grew { Grew sheet.old.types sheet.old.fields sheet.new.types sheet.new.fields }
-    ensures builds { BuildsWhole (limits_of sheet.old.types sheet.old.fields) text.now (book_of sheet.old.types sheet.old.fields) result (book_of sheet.new.types sheet.new.fields) }
+    ensures grew { GrewTo sheet.old sheet.new }
+    ensures builds { BuildsWhole (limits_in sheet.old) text.now (book_in sheet.old) result (book_in sheet.new) }
 {
     let mut pending = [0u16; 65535];
     whole(sheet, text, &mut pending)
@@ -39,8 +38,8 @@ fn long(sheet: &mut Sheet, text: &[u8]) -> Result<u16, Refusal>
 // The types of a valid text, on a stack of pending fields that suits its length.
 fn build(sheet: &mut Sheet, text: &[u8]) -> Result<u16, Refusal>
     requires room { length text.now ≤ 65535 }
-    ensures grew { Grew sheet.old.types sheet.old.fields sheet.new.types sheet.new.fields }
-    ensures builds { BuildsWhole (limits_of sheet.old.types sheet.old.fields) text.now (book_of sheet.old.types sheet.old.fields) result (book_of sheet.new.types sheet.new.fields) }
+    ensures grew { GrewTo sheet.old sheet.new }
+    ensures builds { BuildsWhole (limits_in sheet.old) text.now (book_in sheet.old) result (book_in sheet.new) }
 {
     if text.len() <= FEW {
         short(sheet, text)
@@ -52,7 +51,7 @@ fn build(sheet: &mut Sheet, text: &[u8]) -> Result<u16, Refusal>
 impl<'a> Sheet<'a> {
     // The number of the text's shape: Unit for the empty text, a type for one, their structure for several.
     pub fn from_bytes(&mut self, text: &[u8]) -> Result<u16, Refusal>
-        ensures { Called self.old.types self.old.fields self.new.types self.new.fields (outcome result) (from_bytes_of text.now) }
+        ensures { CalledOn self.old self.new (outcome result) (from_bytes_of text.now) }
     {
         let types = parse(text)?;
         if types > 1 && text.len() > LONGEST_ROW {

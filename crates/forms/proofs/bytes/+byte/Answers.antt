@@ -1,6 +1,6 @@
 use Rattle.std.proofs.Common.{get_or, sym, ap, ◌∙◌, arith}
 use Rattle.grammar.specs.Shape.{Text}
-use Rattle.forms.specs.Forms.{book_in}
+use Rattle.sheet.specs.Seen.{book_in}
 use Rattle.forms.proofs.Texts.{book_long, no_text, byte_as}
 use Rattle.forms.proofs.Leading.{row_done, row_below, row_within}
 use Rattle.forms.proofs.bytes.+byte.Goals as goal

@@ -2,7 +2,8 @@ use Rattle.std.proofs.Common.{length, Some, sym, ap, ◌∙◌, arith}
 use Rattle.std.proofs.lemmas.Option.{slice_get-get_or, slice_get_past}
 use Rattle.grammar.specs.Refusals.{accepted}
 use Rattle.book.specs.Plain.{text_of}
-use Rattle.forms.specs.Forms.{book_in, byte_of}
+use Rattle.forms.specs.Forms.{byte_of}
+use Rattle.sheet.specs.Seen.{book_in}
 use Rattle.forms.proofs.Texts.{length_as, byte_as}
 use Rattle.forms.proofs.Known.{known_answer, unknown_answer}
 use Rattle.forms.proofs.bytes.byte_at.Goals as goal

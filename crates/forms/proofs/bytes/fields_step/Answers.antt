@@ -1,6 +1,6 @@
 use Rattle.std.proofs.Common.{◌∙◌, subst, inr, arith}
 use Rattle.sheet.specs.declared.sheet.Sheet.{Sheet}
-use Rattle.forms.specs.Forms.{book_in}
+use Rattle.sheet.specs.Seen.{book_in}
 use Rattle.forms.specs.Steps.{fields_from, FieldHere}
 use Rattle.forms.proofs.Texts.{length_as}
 use Rattle.forms.proofs.Leading.{field_in, field_on, among_rest}

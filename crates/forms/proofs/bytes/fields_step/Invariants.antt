@@ -1,7 +1,7 @@
 use Rattle.std.proofs.Common.{◌≡◌, ℕ, [], ◌∷◌, ◌++◌, get_or}
 use Rattle.grammar.specs.Lists.{In}
 use Rattle.book.specs.Plain.{texts}
-use Rattle.forms.specs.Forms.{book_in}
+use Rattle.sheet.specs.Seen.{book_in}
 use Rattle.forms.specs.Steps.{fields_from}
 use Rattle.forms.proofs.bytes.fields_step.Given as goal
 

@@ -1,5 +1,5 @@
 use Rattle.std.proofs.Common.{◌∙◌}
-use Rattle.forms.specs.Forms.{book_in}
+use Rattle.sheet.specs.Seen.{book_in}
 use Rattle.forms.proofs.Texts.{length_as}
 use Rattle.forms.proofs.Leading.{pair_key, pair_value, pair_last, pair_none}
 use Rattle.forms.proofs.bytes.pair_step.Goals as goal

@@ -1,7 +1,7 @@
 use Rattle.std.proofs.Common.{[], ◌∷◌, ◌++◌, refl, arith}
 use Rattle.book.specs.Plain.{text_of}
 use Rattle.book.specs.Nodes.{dict}
-use Rattle.forms.specs.Forms.{book_in}
+use Rattle.sheet.specs.Seen.{book_in}
 use Rattle.forms.specs.Steps.{node_in}
 use Rattle.forms.proofs.Leading.{node_by_is, node_other, leads_as, leads_two}
 use Rattle.forms.proofs.bytes.row_step.Goals as goal

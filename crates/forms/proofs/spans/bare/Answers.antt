@@ -1,7 +1,8 @@
 use Rattle.std.proofs.Common.{true, false, sym, ◌∙◌, subst, arith}
 use Rattle.book.specs.Plain.{text_of}
 use Rattle.sheet.specs.declared.sheet.Sheet.{Sheet}
-use Rattle.forms.specs.Forms.{book_in, Paired}
+use Rattle.forms.specs.Forms.{Paired}
+use Rattle.sheet.specs.Seen.{book_in}
 use Rattle.forms.proofs.Texts.{length_as}
 use Rattle.forms.proofs.Bared.{whole_span, pair_two, inner_span}
 use Rattle.forms.proofs.spans.bare.Goals as goal

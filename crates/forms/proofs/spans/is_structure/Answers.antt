@@ -1,6 +1,6 @@
 use Rattle.std.proofs.Common.{length, refl, ap, arith}
 use Rattle.book.specs.Plain.{text_of}
-use Rattle.forms.specs.Forms.{book_in}
+use Rattle.sheet.specs.Seen.{book_in}
 use Rattle.forms.proofs.Texts.{book_long, no_text, first_short}
 use Rattle.forms.proofs.Bared.{bare_short, row_paired}
 use Rattle.forms.proofs.spans.is_structure.Goals as goal

@@ -1,6 +1,6 @@
 use Rattle.std.proofs.Common.{sym, ◌∙◌, arith}
 use Rattle.book.specs.Plain.{text_of}
-use Rattle.forms.specs.Forms.{book_in}
+use Rattle.sheet.specs.Seen.{book_in}
 use Rattle.forms.proofs.Texts.{length_as}
 use Rattle.forms.proofs.Bared.{whole_span}
 use Rattle.forms.proofs.spans.whole.Goals as goal

@@ -2,7 +2,7 @@ use Rattle.std.proofs.Common.{◌++◌, take, sym, refl, ap, ◌∙◌, append-n
 use Rattle.std.proofs.lemmas.Result.{err_from_is_err_and}
 use Rattle.book.specs.Plain.{text_of}
 use Rattle.sheet.specs.declared.sheet.Sheet.{Sheet}
-use Rattle.forms.specs.Forms.{book_in}
+use Rattle.sheet.specs.Seen.{book_in}
 use Rattle.history.proofs.Asking.{account_unknown, account_refused, account_known}
 use Rattle.history.proofs.account.account_of.Goals as goal
 

@@ -4,7 +4,7 @@ use Rattle.grammar.specs.Figures.{text_figures}
 use Rattle.grammar.specs.declared.figures.Figures.{Figures}
 use Rattle.book.specs.Plain.{text_of}
 use Rattle.sheet.specs.declared.sheet.Sheet.{Sheet}
-use Rattle.forms.specs.Forms.{book_in}
+use Rattle.sheet.specs.Seen.{book_in}
 use Rattle.intake.proofs.Forming.{known_after, known_as, figures_are, never_unknown, text_long, book_shown, called_as}
 use Rattle.intake.proofs.filing.file.Goals as goal
 

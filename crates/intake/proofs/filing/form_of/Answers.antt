@@ -1,6 +1,6 @@
 use Rattle.std.proofs.Common.{arith}
 use Rattle.book.specs.Plain.{text_of}
-use Rattle.forms.specs.Forms.{book_in}
+use Rattle.sheet.specs.Seen.{book_in}
 use Rattle.intake.proofs.Forming.{never_short, count_is, front}
 use Rattle.intake.proofs.filing.form_of.Goals as goal
 

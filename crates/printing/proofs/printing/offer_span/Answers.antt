@@ -2,7 +2,7 @@ use Rattle.std.proofs.Common.{arith}
 use Rattle.std.proofs.lemmas.Grind.{common_steps}
 use Rattle.book.specs.Plain.{text_of}
 use Rattle.writers.proofs.Accepting.{going_on, going_stop, going_end}
-use Rattle.forms.specs.Forms.{book_in}
+use Rattle.sheet.specs.Seen.{book_in}
 use Rattle.printing.proofs.Offering.{span_long, span_byte}
 use Rattle.printing.proofs.printing.offer_span.Goals as goal
 

@@ -1,7 +1,7 @@
 use Rattle.std.proofs.Common.{◌≡◌}
 use Rattle.book.specs.Plain.{text_of}
 use Rattle.writers.proofs.Accepting.{Going}
-use Rattle.forms.specs.Forms.{book_in}
+use Rattle.sheet.specs.Seen.{book_in}
 use Rattle.forms.specs.Spans.{bytes_in}
 use Rattle.printing.proofs.printing.offer_span.Given as goal
 
