@@ -1,1 +1,3 @@
 pub mod Offering
+pub mod Matching
+pub mod Held
