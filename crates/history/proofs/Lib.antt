@@ -1,3 +1,1 @@
-pub mod Running
-pub mod Asking
-pub mod Theorem
+
