@@ -1,7 +1,6 @@
 -- What an empty writer holds that declined nothing.
-use Rattle.std.proofs.Common.{◌≡◌, ℕ, true, List, [], length, take, arith}
+use Rattle.std.proofs.Common.{◌≡◌, ℕ, true, List, [], take, arith}
 use Rattle.std.proofs.lemmas.Grind.{common_steps}
-use Rattle.std.proofs.lemmas.Bool.Decides.{nat_tests}
 use Rattle.grammar.specs.Shape.{Text}
 use Rattle.grammar.specs.Refusals.{accepted}
 use Rattle.writers.specs.State.{State, Took, Wrote}

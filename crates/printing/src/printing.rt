@@ -23,19 +23,21 @@ pub struct Printed {
 }
 
 // Offers some bytes of the printed form of `n` in order, until one is declined.
-pub(crate) fn offer_span<W: Writer>(sheet: &mut Sheet, n: u16, span: Range<usize>, w: &mut W) -> Printed
+pub(crate) fn offer_span<W: Writer>(
+    sheet: &mut Sheet,
+    n: u16,
+    span: Range<usize>,
+    w: &mut W,
+) -> Printed
     requires { Inside (text_of (book_in sheet.old) n) span }
     ensures same { sheet.new ≡ sheet.old }
     ensures wrote { Wrote (W.state w.old) (W.state w.new) (bytes_in span (text_of (book_in sheet.old) n)) result.taken result.all }
 {
-    let count = span.end - span.start;
-    for i in 0..count {
-        let b = byte(sheet, n, span.start + i).unwrap();
+    let count = span.len();
+    for taken in 0..count {
+        let b = byte(sheet, n, span.start + taken).unwrap();
         if !w.offer(b) {
-            return Printed {
-                taken: i,
-                all: false,
-            };
+            return Printed { taken, all: false };
         }
     }
     Printed {

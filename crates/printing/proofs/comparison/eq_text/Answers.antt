@@ -1,6 +1,5 @@
 use Rattle.std.proofs.Common.{ap, arith}
 use Rattle.std.proofs.lemmas.Grind.{common_steps}
-use Rattle.std.proofs.lemmas.Bool.Decides.{nat_tests}
 use Rattle.sheet.specs.Seen.{book_in}
 use Rattle.printing.specs.Forms.{eq_text_of}
 use Rattle.printing.proofs.comparison.eq_text.Goals as goal

@@ -5,8 +5,8 @@ use Rattle.sheet.specs.Seen.{book_in}
 use Rattle.forms.specs.Spans.{bytes_in}
 use Rattle.printing.proofs.printing.offer_span.Given as goal
 
-abbrev pub invariant-loop-i : goal.invariant-loop-i
-invariant-loop-i g l = record {
+abbrev pub invariant-loop-taken : goal.invariant-loop-taken
+invariant-loop-taken g l = record {
   same : l.sheet ≡ l.initial.sheet;
-  going : Going (g.W.Writer.state l.initial.w) (bytes_in l.span (text_of (book_in l.initial.sheet) l.n)) l.i (g.W.Writer.state l.w);
+  going : Going (g.W.Writer.state l.initial.w) (bytes_in l.span (text_of (book_in l.initial.sheet) l.n)) l.taken (g.W.Writer.state l.w);
 }
