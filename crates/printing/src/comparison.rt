@@ -25,6 +25,7 @@ fn is_span(sheet: &mut Sheet, n: u16, span: Range<usize>, text: &[u8]) -> bool
 }
 
 // Whether the text is the printed or the bare form of `n`.
+#[tactic(auto, unfolding(crate::specs::Forms::eq_text_of))]
 pub fn eq_text(sheet: &mut Sheet, n: u16, text: &[u8]) -> Result<bool, Refusal>
     ensures same { sheet.new ≡ sheet.old }
     ensures answer { outcome result ≡ eq_text_of (book_in sheet.old) n text.now }
