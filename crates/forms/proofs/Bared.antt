@@ -1,5 +1,5 @@
 -- Bare forms: a structure's text is its bare form in a pair of parentheses, and any other text is bare itself.
-use Rattle.std.proofs.Common.{◌≡◌, ℕ, suc, ◌+◌, ◌-◌, ◌≤◌, true, eqb, ◌⊎◌, List, [], ◌∷◌, ◌++◌, length, take, drop, sym, refl, ap, ◌∙◌, subst, inl, inr, arith, eq-eqb, ne_eqb}
+use Rattle.std.proofs.Common.{◌≡◌, ℕ, suc, ◌+◌, ◌-◌, ◌≤◌, true, eqb, ◌⊎◌, List, [], ◌∷◌, ◌++◌, length, take, drop, slice_range, sym, refl, ap, ◌∙◌, subst, inl, inr, arith, eq-eqb, ne_eqb}
 use mathlib.Core.Option.{Option, none, some}
 use Rattle.std.proofs.lemmas.List.{length-append, take_at, take_all}
 use Rattle.std.proofs.lemmas.Bool.{cases_eq}
@@ -8,7 +8,6 @@ use Rattle.grammar.specs.Read.{reading}
 use Rattle.grammar.proofs.Prefix.{bare}
 use Rattle.grammar.proofs.ReadBack.{reading_printed, long}
 use Rattle.grammar.proofs.ReadExact.{read_is}
-use Rattle.rows.specs.Found.{Located}
 use Rattle.book.specs.Plain.{text_of}
 use Rattle.book.specs.Nodes.{Node, Known, node_shape, shapes_from}
 use Rattle.book.specs.Nodes
@@ -19,7 +18,7 @@ use Rattle.forms.specs.Forms.{bare_by, bare_text, Paired}
 use Rattle.sheet.specs.Seen.{book_in}
 use Rattle.forms.specs.Steps.{node_in, fields_from}
 use Rattle.forms.specs.Spans.{Inside}
-use Rattle.forms.proofs.Texts.{row_known, row_shape}
+use Rattle.forms.proofs.Texts.{Row, row_known, row_shape}
 use Rattle.forms.proofs.Leading.{node_by_is, node_other}
 
 -- a text of at most one byte is no structure's
@@ -46,7 +45,7 @@ structure_paired ss k (f ∷ fs) h =
     bare (Nodes.shape_at ss f) (Nodes.shapes_at ss fs) ∙ ap (λ (u : Text). 40 ∷ (u ++ 41 ∷ [])) (sym (bare_printed t))
 
 -- the text of a row
-module _ (s : Sheet) (n : ℕ) (h : 15 ≤ n) (x : TypeRow) (l : Located s.types (n - 15) x) where
+module _ (s : Sheet) {n : ℕ} {x : TypeRow} (r : Row s n x) where
   abbrev ss : List Shape
   ss = shapes_from [] (nodes_of s.types s.fields)
 
@@ -66,15 +65,15 @@ module _ (s : Sheet) (n : ℕ) (h : 15 ≤ n) (x : TypeRow) (l : Located s.types
   told (inl e) =
       let y : node_in s x ≡ Nodes.structure (fields_from s x.first) = node_by_is s x 3 e in
       subst (Paired (printed (node_shape ss (node_in s x)))) (sym (eq-eqb x.kind 3 e))
-      (subst (λ (z : Node). Paired (printed (node_shape ss z)) true) (sym y) (structure_paired ss (n - 15) (fields_from s x.first) (subst (Known (n - 15)) y (row_known s n h x l))))
+      (subst (λ (z : Node). Paired (printed (node_shape ss z)) true) (sym y) (structure_paired ss (n - 15) (fields_from s x.first) (subst (Known (n - 15)) y (row_known s r))))
   told (inr no3) = other (cases_eq x.kind 1) (cases_eq x.kind 2) no3
 
   pub row_paired : Paired (text_of (book_in s) n) (eqb x.kind 3)
-  row_paired = subst (λ (w : Text). Paired w (eqb x.kind 3)) (sym (row_shape s n h x l)) (told (cases_eq x.kind 3))
+  row_paired = subst (λ (w : Text). Paired w (eqb x.kind 3)) (sym (row_shape s r)) (told (cases_eq x.kind 3))
 
--- The spans of the forms.
-pub whole_span : (w : Text) (size : ℕ) → size ≡ length w → size ≤ 65535 → Inside w (record { from = 0; count = size }) × (take size (drop 0 w) ≡ w)
-whole_span w size e l = (record { within = omega arith; short = omega arith }, take_all size w (omega arith))
+-- The places of the forms.
+pub whole_places : (w : Text) (size : ℕ) → size ≡ length w → size ≤ 65535 → Inside w (record { start = 0; end = size }) × (slice_range w 0 size ≡ w)
+whole_places w size e l = (record { ordered = omega arith; within = omega arith; short = omega arith }, take_all (size - 0) w (omega arith))
 
 module _ (w : Text) (size : ℕ) (e : size ≡ length w) (p : Paired w true) where
   pair_long : length w ≡ suc (length (bare_text w) + 1)
@@ -83,8 +82,8 @@ module _ (w : Text) (size : ℕ) (e : size ≡ length w) (p : Paired w true) whe
   pub pair_two : 2 ≤ size
   pair_two = omega (arith, pair_long)
 
-  pub inner_span : size ≤ 65535 → Inside w (record { from = 1; count = size - 2 }) × (take (size - 2) (drop 1 w) ≡ bare_text w)
-  inner_span l = (
-    record { within = omega (arith, pair_long); short = omega arith },
-    ap (λ (t : Text). take (size - 2) (drop 1 t)) p ∙ take_at (bare_text w) (41 ∷ []) (size - 2) (omega (arith, pair_long)),
+  pub inner_places : size ≤ 65535 → Inside w (record { start = 1; end = size - 1 }) × (slice_range w 1 (size - 1) ≡ bare_text w)
+  inner_places l = (
+    record { ordered = omega (arith, pair_long); within = omega (arith, pair_long); short = omega arith },
+    ap (λ (t : Text). take (size - 1 - 1) (drop 1 t)) p ∙ take_at (bare_text w) (41 ∷ []) (size - 1 - 1) (omega (arith, pair_long)),
   )

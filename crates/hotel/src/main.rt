@@ -103,8 +103,7 @@ fn main(rt: HostRuntime) -> io::Result<()> {
     let mut form = [b'.'; 24];
     let mut printed = BufferWriter::new(&mut form);
     let mut typed = MatchingWriter::new(b"a(std)");
-    let mut accounts = (Err(Refusal::Unknown(0)), Err(Refusal::Unknown(0)));
-    let mut sheet = replay(
+    let mut history = replay(
         &mut types,
         &mut fields,
         &DAY,
@@ -113,15 +112,14 @@ fn main(rt: HostRuntime) -> io::Result<()> {
         &mut printed,
         SHIFTS,
         &mut typed,
-        &mut accounts,
     );
     for (i, call) in DAY.iter().enumerate() {
         show_call(&rt, call)?;
         show_answer(&rt, &answers[i])?;
     }
-    show_account(&rt, WAGE, &accounts.0)?;
-    show_account(&rt, SHIFTS, &accounts.1)?;
-    let (type_rows, field_rows) = sheet.counts();
+    show_account(&rt, WAGE, &history.first)?;
+    show_account(&rt, SHIFTS, &history.second)?;
+    let (type_rows, field_rows) = history.sheet.counts();
     println!(rt; "rows in use: {type_rows} of types, {field_rows} of fields")?;
     let text = from_utf8(&form).unwrap_or("");
     println!(rt; "the wage's shape: {text}")

@@ -1,8 +1,5 @@
-use Rattle.forms.proofs.Leading.{field_by}
+use Rattle.forms.proofs.Texts.{field_by}
 use Rattle.forms.proofs.bytes.field_at.Goals as goal
 
-pub returns-else-at-eq0 : goal.returns-else-at-eq0
-returns-else-at-eq0 c = record {
-  same = c.field_row.ensures.same;
-  field = field_by c.args.sheet.now c.args.at c.field_row.result c.if-at-eq0.false c.field_row.ensures.row;
-}
+pub returns-clause-field : goal.returns-clause-field
+returns-clause-field c = field_by c.args.sheet.now c.args.at c.in_ok-i.i c.field_row.result c.in_ok-i.ensures c.field_row.ensures.row

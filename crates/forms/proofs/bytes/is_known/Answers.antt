@@ -1,9 +1,6 @@
-use Rattle.std.proofs.Common.{ℕ, ◌+◌, ltb, sym, ap, ◌∙◌}
-use Rattle.forms.proofs.Texts.{book_long}
+use Rattle.std.proofs.Common.{◌∙◌}
+use Rattle.forms.proofs.Known.{is_ok_known}
 use Rattle.forms.proofs.bytes.is_known.Goals as goal
 
-pub returns : goal.returns
-returns c = record {
-  same = c.counts.ensures.same;
-  known = ap (λ (k : ℕ). ltb c.args.n (15 + k)) (c.counts.ensures.types ∙ sym (book_long c.args.sheet.now));
-}
+pub returns-clause-known : goal.returns-clause-known
+returns-clause-known c = c.is_ok.ensures.value ∙ is_ok_known c.args.sheet.now c.args.n c.string_len.result c.string_len.ensures.answer
