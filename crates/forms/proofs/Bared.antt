@@ -1,8 +1,7 @@
 -- Bare forms: a structure's text is its bare form in a pair of parentheses, and any other text is bare itself.
-use Rattle.std.proofs.Common.{◌≡◌, ℕ, suc, ◌+◌, ◌-◌, ◌≤◌, Bool, true, false, List, [], ◌∷◌, ◌++◌, length, take, drop, slice_range, sym, refl, ap, ◌∙◌, subst, inl, inr, arith, eq-eqb, ne_eqb}
+use Rattle.std.proofs.Common.{◌≡◌, ℕ, suc, ◌+◌, ◌-◌, ◌≤◌, Bool, true, false, List, [], ◌∷◌, ◌++◌, length, take, drop, sym, refl, ap, ◌∙◌, subst, arith}
 use mathlib.Core.Option.{Option, none, some}
 use Rattle.std.proofs.lemmas.List.{length-append, take_at, take_all}
-use Rattle.std.proofs.lemmas.Bool.{cases_eq}
 use Rattle.grammar.specs.Shape.{Text, Shape, basic, array, maybe, dict, structure, printed, printed_all}
 use Rattle.grammar.specs.Read.{reading}
 use Rattle.grammar.proofs.Prefix.{bare}

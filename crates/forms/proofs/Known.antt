@@ -1,11 +1,10 @@
 -- What is answered about a number, where it is known and where it is not.
-use Rattle.std.proofs.Common.{◌≡◌, ℕ, ◌+◌, ◌-◌, ◌<◌, ◌≤◌, Bool, true, false, cond, ltb, List, [], ◌∷◌, length, Some, None, Ok, Err, Option, Result, MatchOption, MatchResult, SomeIff, sym, refl, ap, ◌∙◌, arith, le-ltb, lt-ltb}
+use Rattle.std.proofs.Common.{◌≡◌, ℕ, ◌+◌, ◌<◌, ◌≤◌, Bool, true, false, cond, ltb, List, [], ◌∷◌, length, Some, None, Ok, Err, Result, MatchResult, sym, refl, ap, ◌∙◌, le-ltb, lt-ltb}
 use Rattle.std.specs.Option.{unwrap_or}
 use Rattle.std.specs.Result.{is_ok, IsErr, IsErrAnd}
 use Rattle.std.proofs.lemmas.Bool.{ltb-true, ltb-false}
 use Rattle.grammar.specs.declared.error.Refusal.{Refusal}
 use Rattle.grammar.specs.declared.error.Refusal.TheVariants.{Unknown}
-use Rattle.grammar.specs.declared.error.Refusal
 use Rattle.grammar.specs.Refusals.{Outcome, accepted, refused, outcome, number_of, values_of}
 use Rattle.grammar.specs.Shape.{Text}
 use Rattle.grammar.specs.Figures.{text_figures}

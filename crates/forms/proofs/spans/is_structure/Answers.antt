@@ -1,4 +1,4 @@
-use Rattle.std.proofs.Common.{true, false, length, refl, ap, arith}
+use Rattle.std.proofs.Common.{true, false, length, ap, arith}
 use Rattle.book.specs.Plain.{text_of}
 use Rattle.sheet.specs.Seen.{book_in}
 use Rattle.forms.proofs.Texts.{row_at, no_row, no_text, first_short}
