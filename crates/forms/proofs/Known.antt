@@ -17,11 +17,27 @@ use Rattle.forms.specs.Forms.{length_in}
 use Rattle.forms.specs.Spans.{NotKnown}
 use Rattle.forms.proofs.Texts.{no_text, text_long}
 
-pub known_answer : {A : Type 0} (count n : ℕ) (x : Outcome A) → ltb n (15 + count) ≡ true → x ≡ if_known count n x
-known_answer count n x e = sym (ap (λ (k : Bool). cond k x (refused 3 (0 ∷ []))) e)
+module _ {A : Type 0} (count n : ℕ) where
+  pub known_answer : (x : Outcome A) → ltb n (15 + count) ≡ true → x ≡ if_known count n x
+  known_answer x e = sym (ap (λ (k : Bool). cond k x (refused 3 (0 ∷ []))) e)
 
-pub unknown_answer : {A : Type 0} (count n : ℕ) (x : Outcome A) → ltb n (15 + count) ≡ false → refused 3 (0 ∷ []) ≡ if_known count n x
-unknown_answer count n x e = sym (ap (λ (k : Bool). cond k x (refused 3 (0 ∷ []))) e)
+  pub unknown_answer : (x : Outcome A) → ltb n (15 + count) ≡ false → refused 3 (0 ∷ []) ≡ if_known count n x
+  unknown_answer x e = sym (ap (λ (k : Bool). cond k x (refused 3 (0 ∷ []))) e)
+
+  -- the other way about
+  accepted_by : (k : Bool) (x a : A) → accepted x ≡ cond k (accepted a) (refused 3 (0 ∷ [])) → (k ≡ true) × (x ≡ a)
+  accepted_by true x a h = (refl, cc)
+  accepted_by false x a h = absurd cc
+
+  refused_by : (k : Bool) (e : Refusal) (a : A) → ◌≡◌ {A = Outcome A} (refused (number_of e) (values_of e)) (cond k (accepted a) (refused 3 (0 ∷ []))) → (k ≡ false) × (e ≡ Unknown 0)
+  refused_by false (Unknown p) a h = (refl, cc)
+  refused_by k e a h = absurd cc
+
+  pub accepted_known : (x a : A) → accepted x ≡ if_known count n (accepted a) → (ltb n (15 + count) ≡ true) × (x ≡ a)
+  accepted_known x a h = accepted_by (ltb n (15 + count)) x a h
+
+  pub refused_unknown : (e : Refusal) (a : A) → ◌≡◌ {A = Outcome A} (refused (number_of e) (values_of e)) (if_known count n (accepted a)) → (ltb n (15 + count) ≡ false) × (e ≡ Unknown 0)
+  refused_unknown e a h = refused_by (ltb n (15 + count)) e a h
 
 -- A known number, and the length of its text.
 pub record Long (b : List Text) (n l : ℕ) : Type 0 where
@@ -49,27 +65,24 @@ past_by b n p l o (Some r) e f h = let k : l ≡ length (text_of b n) = f ∙ ap
 
 -- What the length that a sheet answers says of a number.
 module _ (s : Sheet) (n : ℕ) where
-  of_outcome : (k : Bool) (r : Result ℕ Refusal) → ltb n (15 + length (book_in s)) ≡ k → outcome r ≡ cond k (accepted (text_figures (text_of (book_in s) n)).length) (refused 3 (0 ∷ []))
-      → MatchResult r (λ l. Long (book_in s) n l) (λ e. NotKnown (book_in s) n e)
-  of_outcome true (Ok l) e h = let z : l ≡ (text_figures (text_of (book_in s) n)).length = cc in record { known = e; long = z ∙ text_long s n (ltb-true n (15 + length (book_in s)) e) }
-  of_outcome false (Err (Unknown p)) e h = record { unknown = e; refusal = cc }
-  of_outcome k r e h = absurd cc
-
-  pub told : (r : Result ℕ Refusal) → outcome r ≡ string_length_of (book_in s) n → MatchResult r (λ l. Long (book_in s) n l) (λ e. NotKnown (book_in s) n e)
-  unfolding figure_of
-  told r h = of_outcome (ltb n (15 + length (book_in s))) r refl h
-
   pub told_known : (l : ℕ) → accepted l ≡ string_length_of (book_in s) n → Long (book_in s) n l
-  told_known l h = told (Ok l) h
+  unfolding figure_of
+  told_known l h =
+      let k = accepted_known (length (book_in s)) n l (text_figures (text_of (book_in s) n)).length h in
+      record { known = k.0; long = k.1 ∙ text_long s n (ltb-true n (15 + length (book_in s)) k.0) }
 
   pub told_unknown : (e : Refusal) → ◌≡◌ {A = Outcome ℕ} (refused (number_of e) (values_of e)) (string_length_of (book_in s) n) → NotKnown (book_in s) n e
-  told_unknown e h = told (Err e) h
+  unfolding figure_of
+  told_unknown e h =
+      let k = refused_unknown (length (book_in s)) n e (text_figures (text_of (book_in s) n)).length h in
+      record { unknown = k.0; refusal = k.1 }
 
-  pub is_ok_known : (r : Result ℕ Refusal) → MatchResult r (λ l. Long (book_in s) n l) (λ e. NotKnown (book_in s) n e) → is_ok r ≡ ltb n (15 + length (book_in s))
-  is_ok_known (Ok l) h = sym h.known
-  is_ok_known (Err e) h = sym h.unknown
+  pub is_ok_known : (r : Result ℕ Refusal) → outcome r ≡ string_length_of (book_in s) n → is_ok r ≡ ltb n (15 + length (book_in s))
+  is_ok_known (Ok l) h = sym (told_known l h).known
+  is_ok_known (Err e) h = sym (told_unknown e h).unknown
 
--- the refusal that `?` hands on
-pub refused_as : {A : Type 0} (P : A → Type 0) (s : Sheet) (n : ℕ) (r : Result A Refusal) (e : Refusal) → IsErr r × IsErrAnd r (λ x. x ≡ e) → NotKnown (book_in s) n e → MatchResult r P (λ x. NotKnown (book_in s) n x)
-refused_as P s n (Ok x) e h k = let z : false ≡ true = h.0 in absurd cc
-refused_as P s n (Err x) e h k = record { unknown = k.unknown; refusal = h.1 ∙ k.refusal }
+  -- the refusal that `?` hands on
+  pub refused_as : {A : Type 0} (P : A → Type 0) (r : Result A Refusal) (e : Refusal) → IsErr r × IsErrAnd r (λ x. x ≡ e)
+      → ◌≡◌ {A = Outcome ℕ} (refused (number_of e) (values_of e)) (string_length_of (book_in s) n) → MatchResult r P (λ x. NotKnown (book_in s) n x)
+  refused_as P (Ok x) e h k = let z : false ≡ true = h.0 in absurd cc
+  refused_as P (Err x) e h k = let z = told_unknown e k in record { unknown = z.unknown; refusal = h.1 ∙ z.refusal }

@@ -1,5 +1,5 @@
 -- The texts of the numbers of a sheet, by its rows.
-use Rattle.std.proofs.Common.{◌≡◌, ℕ, zero, suc, ◌+◌, ◌-◌, ◌<◌, ◌≤◌, min, List, [], ◌∷◌, ◌++◌, map, length, get_or, slice_get, Option as Optional, Some, None, MatchOption, sym, refl, ap, ◌∙◌, subst, ap₂, inl, inr, append_assoc, arith}
+use Rattle.std.proofs.Common.{◌≡◌, ℕ, zero, suc, ◌+◌, ◌-◌, ◌<◌, ◌≤◌, List, [], ◌∷◌, ◌++◌, map, length, get_or, slice_get, Option as Optional, Some, None, MatchOption, sym, refl, ap, ◌∙◌, subst, ap₂, inl, inr, append_assoc, arith}
 use Rattle.std.specs.declared.ops.Range.{Range}
 use mathlib.Core.Option.{Option}
 use Rattle.std.proofs.lemmas.List.{get_or-take, get_or-map, get_or_past, get_or_append_left, length-take-le}
@@ -32,16 +32,7 @@ use Rattle.sheet.specs.Seen.{book_in}
 use Rattle.forms.specs.Spans.{bytes_in}
 use Rattle.forms.specs.Steps.{node_text, parts_of, node_in, fields_from, FieldHere}
 
--- Unit and the basic codes have the same texts in every book.
-pub first_text : (b : List Text) (n : ℕ) → n < 15 → text_of b n ≡ text_of [] n
-first_text b n l = get_or_append_left (known []) b [] n l
-
--- a basic code is its own text
-pub code_text : (n : ℕ) → (n ≡ 0 → ⊥) → n < 15 → text_of [] n ≡ get_or basic_codes (n - 1) 0 ∷ []
-code_text zero h l = absurd (h refl)
-code_text (suc n) h l = let z : n ≡ suc n - 1 = omega arith in get_or-map single basic_codes n 0 [] (omega arith) ∙ ap (λ (k : ℕ). get_or basic_codes k 0 ∷ []) z
-
--- the only byte of a number but Unit is that of its code, where it has one
+-- Unit has the empty text, and a basic code the one byte that it is.
 single_byte : (cs : List ℕ) (i : ℕ) → slice_get cs i ≡ slice_get (get_or (map single cs ++ []) i []) 0
 single_byte [] i = refl
 single_byte (c ∷ cs) zero = refl
@@ -51,9 +42,14 @@ pub code_byte : (n i p : ℕ) → p ≡ 0 → (1 ≤ n) × (i ≡ n - 1) → sli
 code_byte zero i p e h = absurd (omega (arith, h.0))
 code_byte (suc n) i p e h = let z : i ≡ n = omega (arith, h.1) in ap (slice_get basic_codes) z ∙ single_byte basic_codes n ∙ ap (slice_get (text_of [] (suc n))) (sym e)
 
-pub first_long : (b : List Text) (n : ℕ) → n < 15 → length (text_of b n) ≡ min n 1
-first_long b zero l = refl
-first_long b (suc n) l = omega (arith, ap length (first_text b (suc n) l ∙ code_text (suc n) (λ z. omega arith) l))
+single_long : (cs : List ℕ) (b : List Text) (i : ℕ) → i < length cs → length (get_or (map single cs ++ b) i []) ≡ 1
+single_long [] b i l = absurd (omega arith)
+single_long (c ∷ cs) b zero l = refl
+single_long (c ∷ cs) b (suc i) l = single_long cs b i (omega arith)
+
+pub first_short : (b : List Text) (n : ℕ) → n < 15 → length (text_of b n) ≤ 1
+first_short b zero l = omega arith
+first_short b (suc n) l = omega (arith, single_long basic_codes b n (omega arith))
 
 -- a number that is not known has the empty text
 pub no_text : (b : List Text) (n : ℕ) → 15 + length b ≤ n → text_of b n ≡ []

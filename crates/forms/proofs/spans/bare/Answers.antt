@@ -4,14 +4,14 @@ use Rattle.sheet.specs.declared.sheet.Sheet.{Sheet}
 use Rattle.sheet.specs.Seen.{book_in}
 use Rattle.forms.specs.Forms.{bare_text, Paired}
 use Rattle.forms.specs.Spans.{Covers}
-use Rattle.forms.proofs.Known.{told_known, told_unknown, refused_as}
+use Rattle.forms.proofs.Known.{told_known, refused_as}
 use Rattle.forms.proofs.Bared.{whole_places, pair_two, inner_places}
 use Rattle.forms.proofs.spans.bare.Goals as goal
 
 pub returns-in_err-length-clause-covers : goal.returns-in_err-length-clause-covers
 returns-in_err-length-clause-covers c =
     let s = c.args.sheet.now in
-    refused_as (λ x. Covers (book_in s) c.args.n (bare_text (text_of (book_in s) c.args.n)) x) s c.args.n c.from_residual.result c.in_err-length.field-0.0 c.from_residual.ensures (told_unknown s c.args.n c.in_err-length.field-0.0 c.in_err-length.ensures.answer)
+    refused_as s c.args.n (λ x. Covers (book_in s) c.args.n (bare_text (text_of (book_in s) c.args.n)) x) c.from_residual.result c.in_err-length.field-0.0 c.from_residual.ensures c.in_err-length.ensures.answer
 
 pub overflow_sub-result : goal.overflow_sub-result
 overflow_sub-result c =
