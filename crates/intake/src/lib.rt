@@ -3,5 +3,6 @@
 
 pub mod filed;
 pub mod filing;
-pub mod input;
-pub mod lines;
+
+pub use textlines::input;
+pub use textlines::lines;

@@ -1,6 +1,7 @@
 // Lines that end with byte 10; the last may lack it.
 ghost use Rattle.std.specs.Prelude.{◌≡◌, ◌≤◌, [], length, MatchOption};
-ghost use Rattle.intake.specs.Lines.{line_length, Next};
+ghost use Rattle.std.specs.Iterator.{at_most};
+ghost use Rattle.textlines.specs.Lines.{line_length, Next};
 
 const LINE_END: u8 = 10;
 
@@ -9,12 +10,9 @@ pub fn line_length(text: &[u8]) -> usize
     ensures first { result ≡ line_length text.now }
     ensures within { result ≤ length text.now }
 {
-    for (i, b) in text.iter().enumerate() {
-        if *b == LINE_END {
-            return i;
-        }
-    }
-    text.len()
+    text.iter()
+        .position(|b| *b == LINE_END)
+        .unwrap_or(text.len())
 }
 
 // The lines of a text, one after another: what is left of it.
@@ -29,21 +27,22 @@ impl<'a> Lines<'a> {
     {
         Lines { rest: text }
     }
+}
+
+impl<'a> Iterator for Lines<'a> {
+    type Item = &'a [u8];
+
+    ghost next_gives = { λ s r t. MatchOption r ((s.rest.now ≡ []) × (t.rest.now ≡ [])) (λ line. Next s.rest.now line.now t.rest.now) };
+
+    ghost remaining = { λ s. at_most (length s.rest.now) };
 
     // The next line, without its end; none where nothing is left.
-    pub fn next_line(&mut self) -> Option<&'a [u8]>
-        ensures { MatchOption result (self.old.rest.now ≡ []) (λ line. Next self.old.rest.now line.now self.new.rest.now) }
-    {
-        if self.rest.len() == 0 {
+    fn next(&mut self) -> Option<&'a [u8]> {
+        if self.rest.is_empty() {
             return None;
         }
-        let end = line_length(self.rest);
-        let line = &self.rest[0..end];
-        self.rest = if end < self.rest.len() {
-            &self.rest[end + 1..]
-        } else {
-            &self.rest[end..]
-        };
+        let (line, rest) = self.rest.split_at(line_length(self.rest));
+        self.rest = rest.get(1..).unwrap_or(rest);
         Some(line)
     }
 }

@@ -1,10 +1,9 @@
 -- The lines of a text.
-use Rattle.std.specs.Prelude.{◌≡◌, ℕ, ◌+◌, ◌<◌, cond, List, [], ◌∷◌, length, take, drop, ◌==◌}
+use Rattle.std.specs.Prelude.{◌≡◌, ℕ, ◌+◌, ◌<◌, List, length, take, drop, position, unwrap_or, ◌==◌}
 
 -- how many bytes stand before the first byte 10, or in all where there is none
 abbrev pub line_length : List ℕ → ℕ
-line_length [] = 0
-line_length (b ∷ w) = cond (b == 10) 0 (line_length w + 1)
+line_length w = unwrap_or (position (λ b. b == 10) w) (length w)
 
 -- The first line of a text, and what stands behind its end.
 pub record Next (text first left : List ℕ) : Type 0 where
