@@ -4,5 +4,4 @@
 pub mod filed;
 pub mod filing;
 
-pub use textlines::input;
-pub use textlines::lines;
+pub use textlines::{input, lines};
