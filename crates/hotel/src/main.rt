@@ -2,9 +2,8 @@
 // account is printed.
 #![tactic(auto)]
 
-use answers::Answer;
+use answers::{Answer, Listed};
 use grammar::error::Refusal;
-use grammar::figures::Figures;
 use history::account::Account;
 use history::calls::Call;
 use history::replay::replay;
@@ -83,19 +82,7 @@ impl fmt::Display for Entry {
     fn fmt<W: fmt::Write>(&self, f: &mut fmt::Formatter<W>) -> fmt::Result {
         let Account { printed, figures } = self.0;
         let Printed { taken, all } = printed;
-        let Figures {
-            length,
-            structures,
-            arrays,
-            dbus,
-            gvariant,
-            fixed,
-            maybe,
-        } = figures;
-        write!(
-            f,
-            "{taken} bytes taken, all {all}; length {length}, alignment {dbus} {gvariant}, fixed {fixed}, maybe {maybe}, depths {structures} {arrays}"
-        )
+        write!(f, "{taken} bytes taken, all {all}; {}", Listed(figures))
     }
 }
 
