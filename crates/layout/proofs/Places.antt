@@ -1,5 +1,5 @@
 -- Places in a list, by a test of equality that tells.
-use Rattle.std.proofs.Common.{◌≡◌, ℕ, suc, ◌+◌, ◌<◌, ◌≤◌, Bool, true, false, cond, eqb, ◌||◌, List, [], ◌∷◌, ◌++◌, length, get_or, sym, refl, ap, ◌∙◌, true≢false, arith, eq-eqb, ne_eqb}
+use Rattle.std.proofs.Common.{◌≡◌, ℕ, suc, ◌+◌, ◌<◌, ◌≤◌, Bool, true, false, cond, eqb, ◌||◌, List, [], ◌∷◌, ◌++◌, length, get_or, take, min, sym, refl, ap, ◌∙◌, true≢false, arith, eq-eqb, ne_eqb}
 use native.Mathlib.Decide.{dec_lt}
 use Rattle.std.specs.List.{position_or_len}
 use Rattle.std.proofs.lemmas.Bool.{cond-true, cond-false}
@@ -7,6 +7,8 @@ use Rattle.std.proofs.lemmas.List.Folds.{position_or_len_push}
 use Rattle.std.proofs.lemmas.List.Recursion.{is_position_or_len}
 use Rattle.std.proofs.lemmas.List.Sums.{position_or_len_is, fails_before_first, passes_at_first}
 use Rattle.std.proofs.lemmas.Bool.Decides.{nat_tests}
+use Rattle.std.proofs.lemmas.List.{get_or-take, length-take-le}
+use Rattle.rows.specs.Found.{Absent}
 use Rattle.grammar.specs.Lists.{has, place, add}
 use Rattle.book.proofs.Lists.{Decides, numbers, same_lists}
 use Rattle.layout.specs.Tails.{same_tail}
@@ -63,3 +65,10 @@ module _ {A : Type 0} (same : A → A → Bool) (t : Decides same) where
 
 pub tail_tells : Decides same_tail
 tail_tells = same_lists numbers
+
+-- no row in use has a key that is absent
+pub absent_in : {R : Type 0} (key : R → List ℕ) (d : R) (rows : List R) (n : ℕ) (k : List ℕ) → n ≤ length rows → Absent key rows (min n (length rows)) k
+    → (j : ℕ) → j < length (take n rows) → key (get_or (take n rows) j d) ≡ k → ⊥
+absent_in key d rows n k h a j l e =
+    let l' : j < n = omega (arith, length-take-le n rows h) in
+    a j d (omega arith) (ap key (sym (get_or-take n rows j d l')) ∙ e)
