@@ -1,6 +1,7 @@
 -- The tails that field rows hold, and a row more for a new tail.
 use Rattle.std.proofs.Common.{◌≡◌, ℕ, zero, suc, ◌+◌, ◌<◌, ◌≤◌, Bool, true, false, cond, List, [], ◌∷◌, ◌++◌, length, get_or, drop, sym, refl, ap, ◌∙◌, subst, zero-add, add-one, arith}
 use Rattle.std.proofs.lemmas.List.{length_push, get_or_push, get_or_append_left}
+use Rattle.std.proofs.lemmas.Grind.{common_steps}
 use Rattle.grammar.specs.Lists.{has, place, add}
 use Rattle.book.specs.Makers.{add_tails}
 use Rattle.layout.specs.declared.row.FieldRow.{FieldRow}
@@ -74,11 +75,7 @@ row_none F f fs g absent =
     place_none same_tail tail_tells [] (row_tails F) (f ∷ fs) (λ j h e. let l : j < length F = omega (arith, tails_long F) in absent j l (g.keys j l ∙ ap (tail_key (row_tails F)) e))
 
 pub add_grows : (T : List (List ℕ)) (t : List ℕ) → length T ≤ length (add same_tail T t)
-add_grows T t = go (has same_tail T t)
-  where
-    go : (b : Bool) → length T ≤ length (cond b T (T ++ t ∷ []))
-    go true = omega arith
-    go false = omega (arith, length_push T t)
+add_grows T t = grind (arith, common_steps)
 
 pub add_tails_grows : (T : List (List ℕ)) (i : ℕ) (fs : List ℕ) → length (add_tails T (drop i fs)) ≤ length (add_tails T fs)
 add_tails_grows T zero fs = omega arith

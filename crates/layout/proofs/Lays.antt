@@ -4,13 +4,13 @@ use native.Mathlib.Decide.{dec_lt}
 use Rattle.rows.specs.declared.RowList.{RowList}
 use Rattle.std.proofs.lemmas.List.{take_more_set, length_push, get_or-take, length-take-le, get_or-set_other, length-set, length-drop, drop_more, drop_all, same_lists, get_or_default}
 use Rattle.grammar.specs.Lists.{place, add}
-use Rattle.rows.specs.Found.{Refused, Place, Absent}
+use Rattle.rows.specs.Found.{Refused, Place}
 use Rattle.book.specs.Makers.{add_tails}
 use Rattle.layout.specs.declared.row.FieldRow.{FieldRow}
 use Rattle.book.specs.Rows.{tail_number}
 use Rattle.layout.specs.Tails.{blank_field, field_key, same_tail, row_tails, FieldsGood}
 use Rattle.layout.specs.Laid.{Ready, Laid, NoRoom}
-use Rattle.layout.proofs.Places.{tail_tells, place_last, add_held, add_new}
+use Rattle.layout.proofs.Places.{tail_tells, absent_in, place_last, add_held, add_new}
 use Rattle.layout.proofs.Laying.{tails_long, row_of, row_held, row_none, add_tails_grows, tails_added, fgood_push}
 
 pub laid_start : (old : List FieldRow) (m cap : ℕ) (fs : List ℕ) → Ready old m cap → Laid old m cap fs (length fs) old m 0
@@ -30,15 +30,7 @@ laid_start old m cap fs r =
 -- The row of the tail at j.
 row_is : (fs : List ℕ) (T : List (List ℕ)) (i j at : ℕ) → i ≡ j + 1 → j < length fs → at ≡ tail_number T (drop i fs)
     → ◌≡◌ {A = FieldRow} (record { field = get_or fs j 0; next = at; count = length fs - j }) (row_of T (get_or fs j 0) (drop i fs))
-row_is fs T i j at e l n =
-    ap (λ (u : ℕ). record { field = get_or fs j 0; next = u; count = length fs - j }) n
-    ∙ ap (λ (u : ℕ). record { field = get_or fs j 0; next = tail_number T (drop i fs); count = u }) (omega (arith, length-drop i fs))
-
-absent_in : (rows : List FieldRow) (n : ℕ) (k : List ℕ) → n ≤ length rows → Absent field_key rows (min n (length rows)) k
-    → (j : ℕ) → j < length (take n rows) → field_key (get_or (take n rows) j blank_field) ≡ k → ⊥
-absent_in rows n k h a j l e =
-    let l' : j < n = omega (arith, length-take-le n rows h) in
-    a j blank_field (omega arith) (ap field_key (sym (get_or-take n rows j blank_field l')) ∙ e)
+row_is fs T i j at e l n = let c : length fs - j ≡ suc (length (drop i fs)) = omega (arith, length-drop i fs) in cc
 
 pub laid_step : (old : List FieldRow) (m cap : ℕ) (fs : List ℕ) (i j : ℕ) (rows : List FieldRow) (n at : ℕ) (r : FieldRow) (new : List FieldRow) (n' p : ℕ)
     → Laid old m cap fs i rows n at → i ≡ j + 1 → j < length fs → r ≡ record { field = get_or fs j 0; next = at; count = length fs - j }
@@ -79,7 +71,7 @@ laid_step old m cap fs i j rows n at r new n' p g ei lj er (inr q) =
     let ed : drop j fs ≡ f ∷ gs = drop_more fs j 0 lj ∙ ap (λ (u : ℕ). f ∷ drop u fs) (sym ei) in
     let p0 : tail_number T gs ≤ length T = omega (arith, tails_long F, g.next, g.found) in
     let er' : r ≡ row_of T f gs = er ∙ row_is fs T i j at ei lj g.next in
-    let ix : place same_tail T (f ∷ gs) ≡ length T = row_none F f gs g.ready.good (λ k h z. absent_in rows n (field_key r) hn q.absent k h (z ∙ sym (ap field_key er'))) in
+    let ix : place same_tail T (f ∷ gs) ≡ length T = row_none F f gs g.ready.good (λ k h z. absent_in field_key blank_field rows n (field_key r) hn q.absent k h (z ∙ sym (ap field_key er'))) in
     let new_is : new ≡ set rows n r = q.rows ∙ ap (λ (u : ℕ). set rows u r) e in
     let n-is : n' ≡ n + 1 = q.count ∙ ap (λ (u : ℕ). u + 1) e in
     let F-is : take (n + 1) (set rows n r) ≡ F ++ row_of T f gs ∷ [] = take_more_set rows n r l ∙ ap (λ (x : FieldRow). F ++ x ∷ []) er' in
@@ -118,7 +110,7 @@ no_room old m cap fs i j rows n at r new n' fin nf rd g ei lj er q en el below a
     let lF : length F ≡ n = length-take-le n rows hn in
     let ed : drop j fs ≡ f ∷ gs = drop_more fs j 0 lj ∙ ap (λ (u : ℕ). f ∷ drop u fs) (sym ei) in
     let er' : r ≡ row_of T f gs = er ∙ row_is fs T i j at ei lj g.next in
-    let ix : place same_tail T (f ∷ gs) ≡ length T = row_none F f gs g.ready.good (λ k h z. absent_in rows n (field_key r) hn q.absent k h (z ∙ sym (ap field_key er'))) in
+    let ix : place same_tail T (f ∷ gs) ≡ length T = row_none F f gs g.ready.good (λ k h z. absent_in field_key blank_field rows n (field_key r) hn q.absent k h (z ∙ sym (ap field_key er'))) in
     let more : length (add_tails (row_tails (take m old)) (drop j fs)) ≡ length T + 1 =
     ap length (ap (add_tails (row_tails (take m old))) ed ∙ ap (λ (U : List (List ℕ)). add same_tail U (f ∷ gs)) (sym g.lists) ∙ add_new same_tail tail_tells T (f ∷ gs) ix) ∙ length_push T (f ∷ gs) in
     record {

@@ -2,6 +2,7 @@
 use Rattle.std.proofs.Common.{◌≡◌, ℕ, zero, suc, ◌+◌, ◌<◌, ◌≤◌, Bool, true, false, cond, List, [], ◌∷◌, ◌++◌, length, get_or, take, sym, refl, ap, ◌∙◌, subst, arith}
 use native.Mathlib.Decide.{dec_lt}
 use Rattle.std.proofs.lemmas.List.{get_or_append_left, get_or-map, length-map, length-take-le, get_or_past, same_lists}
+use Rattle.std.proofs.lemmas.Grind.{common_steps}
 use Rattle.grammar.specs.Lists.{has, place, add}
 use Rattle.book.specs.Nodes.{Node, array, maybe, dict, structure, figures_from, Chain}
 use Rattle.book.specs.Makers.{add_tails}
@@ -19,18 +20,10 @@ use Rattle.layout.proofs.Places.{tail_tells, place_more}
 use Rattle.layout.proofs.Laying.{tails_long, tail_hit, add_grows}
 
 front_1 : (T : List (List ℕ)) (t : List ℕ) (j : ℕ) → j < length T → get_or (add same_tail T t) j [] ≡ get_or T j []
-front_1 T t j l = go (has same_tail T t)
-  where
-    go : (b : Bool) → get_or (cond b T (T ++ t ∷ [])) j [] ≡ get_or T j []
-    go true = refl
-    go false = get_or_append_left T (t ∷ []) [] j l
+front_1 T t j l = grind (arith, common_steps)
 
 place_1 : (T : List (List ℕ)) (t x : List ℕ) → place same_tail T x < length T → place same_tail (add same_tail T t) x ≡ place same_tail T x
-place_1 T t x l = go (has same_tail T t)
-  where
-    go : (b : Bool) → place same_tail (cond b T (T ++ t ∷ [])) x ≡ place same_tail T x
-    go true = refl
-    go false = place_more same_tail tail_tells T x t l
+place_1 T t x l = grind (arith, common_steps, place_more same_tail tail_tells T x t l)
 
 grows : (T : List (List ℕ)) (fs : List ℕ) → length T ≤ length (add_tails T fs)
 grows T [] = omega arith

@@ -15,7 +15,7 @@ use Rattle.book.specs.Rows.{node_key}
 use Rattle.layout.specs.Tails.{row_tails}
 use Rattle.layout.specs.Kept.{Good, Sound, Fit, nodes_at, nodes, node_by, node_of, type_key, blank_type}
 use Rattle.book.proofs.NodeShapes.{same_nodes}
-use Rattle.layout.proofs.Places.{place_at, place_none}
+use Rattle.layout.proofs.Places.{place_at, place_none, absent_in}
 use Rattle.layout.proofs.Keep.{good_push}
 use Rattle.layout.proofs.Tailed.{tails_push}
 
@@ -68,12 +68,6 @@ pub record Told (r : Answer) (b : List Node) (said : Answer × List Node) : Type
 pub told_by : (r : Answer) (b b' : List Node) (said : Answer × List Node) → said ≡ (r, b') → b ≡ b' → Told r b said
 told_by r b b' said e f = record { answer = sym (ap (λ (p : Answer × List Node). p.0) e); nodes = f ∙ sym (ap (λ (p : Answer × List Node). p.1) e) }
 
-absent_in : (types : List TypeRow) (tn : ℕ) (k : List ℕ) → tn ≤ length types → Absent type_key types (min tn (length types)) k
-    → (j : ℕ) → j < length (take tn types) → type_key (get_or (take tn types) j blank_type) ≡ k → ⊥
-absent_in types tn k h a j l e =
-    let l' : j < tn = omega (arith, length-take-le tn types h) in
-    a j blank_type (omega arith) (ap type_key (sym (get_or-take tn types j blank_type l')) ∙ e)
-
 -- One row more, after the last in use.
 module _ (types : List TypeRow) (tn : ℕ) (fields : List FieldRow) (fn cap : ℕ) (r : TypeRow) (new : List TypeRow) (m i : ℕ)
     (h : tn ≤ length types) (k : Sound types tn fields fn) (fit : Fit (take tn types) (take fn fields) r) where
@@ -105,7 +99,7 @@ module _ (types : List TypeRow) (tn : ℕ) (fields : List FieldRow) (fn cap : �
       let er : new ≡ set types tn r = p.rows ∙ ap (λ (n : ℕ). set types n r) e in
       record {
         good = subst (λ (L : List TypeRow). Good L (take fn fields)) (sym (one_more p))
-            (good_push (take tn types) (take fn fields) r k.good fit.coded (absent_in types tn (type_key r) h p.absent) fit.figures fit.known);
+            (good_push (take tn types) (take fn fields) r k.good fit.coded (absent_in type_key blank_type types tn (type_key r) h p.absent) fit.figures fit.known);
         types_blank = λ j g. ap (λ (x : List TypeRow). get_or x j blank_type) er ∙ get_or-set_other types tn j r blank_type (omega (arith, p.count)) ∙ k.types_blank j (omega (arith, p.count));
         fields_blank = k.fields_blank;
       }
@@ -119,7 +113,7 @@ module _ (types : List TypeRow) (tn : ℕ) (fields : List FieldRow) (fn cap : �
   placed_told (inr p) =
       let ei : i ≡ length (nodes_at types tn fields fn) = omega (arith, p.place, long) in
       told_by _ _ (nodes_at types tn fields fn ++ node_of (take fn fields) r ∷ []) _
-      (placed_new cap _ _ (place_new (take tn types) (take fn fields) r k.good fit.coded (absent_in types tn (type_key r) h p.absent)) (omega (arith, p.room, long)) ∙ rw ei)
+      (placed_new cap _ _ (place_new (take tn types) (take fn fields) r k.good fit.coded (absent_in type_key blank_type types tn (type_key r) h p.absent)) (omega (arith, p.room, long)) ∙ rw ei)
       (nodes_added p)
 
   -- the tails of all structures after
@@ -131,7 +125,7 @@ module _ (types : List TypeRow) (tn : ℕ) (fields : List FieldRow) (fn cap : �
       → Told (refused 8 []) (nodes_at new m fields fn) (placed cap (nodes_at types tn fields fn) (node_of (take fn fields) r))
   refused_told hc p =
       told_by _ _ (nodes_at types tn fields fn) _
-      (placed_full cap _ _ (place_new (take tn types) (take fn fields) r k.good fit.coded (absent_in types tn (type_key r) h p.absent)) (omega (arith, p.full, long)))
+      (placed_full cap _ _ (place_new (take tn types) (take fn fields) r k.good fit.coded (absent_in type_key blank_type types tn (type_key r) h p.absent)) (omega (arith, p.full, long)))
       (rw (p.rows, p.count))
 
 pub nodes_long : (types : List TypeRow) (tn : ℕ) (fields : List FieldRow) (fn : ℕ) → tn ≤ length types → length (nodes_at types tn fields fn) ≡ tn

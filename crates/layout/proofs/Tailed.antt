@@ -1,6 +1,7 @@
 -- The tails of the structures of a book, when the book gets one container more.
 use Rattle.std.proofs.Common.{◌≡◌, ℕ, zero, suc, ◌<◌, Bool, true, false, cond, ◌||◌, List, [], ◌∷◌, ◌++◌, length, get_or, sym, refl, ap, ◌∙◌, subst, arith}
 use Rattle.std.proofs.lemmas.Bool.{cond-true}
+use Rattle.std.proofs.lemmas.Bool.Decides.{nat_tests}
 use Rattle.grammar.specs.Lists.{has, add, add_all, tails}
 use Rattle.book.specs.Nodes.{Node, structure, fields_of, tails_from, tails_of}
 use Rattle.book.specs.Makers.{add_tails}
@@ -27,34 +28,18 @@ abbrev Has : List (List ℕ) → List ℕ → Type 0
 Has T y = has same_tail T y ≡ true
 
 has_front : (T : List (List ℕ)) (x y : List ℕ) → Has T y → Has (T ++ x ∷ []) y
-has_front [] x y h = let z : ◌≡◌ {A = ℕ} 0 1 = cc in absurd (omega arith)
-has_front (t ∷ T) x y h = go (same_tail t y) (has_front T x y) h
-  where
-    go : (b : Bool) → (Has T y → Has (T ++ x ∷ []) y) → (b || has same_tail T y) ≡ true → (b || has same_tail (T ++ x ∷ []) y) ≡ true
-    go true ih e = refl
-    go false ih e = ih e
+has_front [] x y h = grind (arith, nat_tests)
+has_front (t ∷ T) x y h = grind (arith, nat_tests, has_front T x y)
 
 has_last : (T : List (List ℕ)) (x : List ℕ) → Has (T ++ x ∷ []) x
-has_last [] x = ap (λ (b : Bool). b || false) (tail_tells.self x)
-has_last (t ∷ T) x = go (same_tail t x) (has_last T x)
-  where
-    go : (b : Bool) → Has (T ++ x ∷ []) x → (b || has same_tail (T ++ x ∷ []) x) ≡ true
-    go true ih = refl
-    go false ih = ih
+has_last [] x = grind (arith, nat_tests, tail_tells.self x)
+has_last (t ∷ T) x = grind (arith, nat_tests, has_last T x)
 
 has_add : (T : List (List ℕ)) (x y : List ℕ) → Has T y → Has (add same_tail T x) y
-has_add T x y h = go (has same_tail T x)
-  where
-    go : (b : Bool) → Has (cond b T (T ++ x ∷ [])) y
-    go true = h
-    go false = has_front T x y h
+has_add T x y h = grind (arith, nat_tests, has_front T x y h)
 
 has_added : (T : List (List ℕ)) (x : List ℕ) → Has (add same_tail T x) x
-has_added T x = go (has same_tail T x) refl
-  where
-    go : (b : Bool) → has same_tail T x ≡ b → Has (cond b T (T ++ x ∷ [])) x
-    go true e = e
-    go false e = has_last T x
+has_added T x = grind (arith, nat_tests, has_last T x)
 
 -- each tail of a list stands in T
 abbrev HasAll : List (List ℕ) → List ℕ → Type 0

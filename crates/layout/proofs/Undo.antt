@@ -9,7 +9,7 @@ use Rattle.layout.specs.declared.row.FieldRow.{FieldRow}
 use Rattle.layout.specs.Tails.{blank_field}
 use Rattle.layout.specs.Kept.{Kept, nodes_of, tails_in, blank_type}
 use Rattle.layout.specs.Laid.{Laid}
-use Rattle.layout.specs.Grown.{Same, Grown, Cut, Grew, Was, Unchanged}
+use Rattle.layout.specs.Grown.{Same, Grown, Cut, Grew, Unchanged}
 use Rattle.layout.specs.Called.{limits_of}
 use Rattle.layout.proofs.Keep.{out}
 
@@ -68,14 +68,12 @@ undone {R} blank m t t' t'' g e l b b' c = record {
     at_k k d h (no x) (no z) = c.above k d (omega arith) ∙ get_or_default t'.rows.now k d blank (omega (arith, g.long)) ∙ b' k (omega arith) ∙ old k d h (omega arith)
 
 pub all_undone : (t : RowList TypeRow) (f : RowList FieldRow) (m n : ℕ) (t' : RowList TypeRow) (f' : RowList FieldRow) (t'' : RowList TypeRow) (f'' : RowList FieldRow)
-    → Kept t'.rows.now t'.count f'.rows.now f'.count → t'.cap ≤ length t'.rows.now → f'.cap ≤ length f'.rows.now
-    → Was t f m n t' f' → Cut blank_type m t' t'' → Cut blank_field n f' f'' → Unchanged t f t'' f''
-all_undone t f m n t' f' t'' f'' k' u v w c d =
-    let k = out w.kept in
-    record {
-      types = undone blank_type m t t' t'' w.grew.types w.types (omega (arith, w.types_within, w.grew.types.cap, w.grew.types.long)) k.sound.types_blank k'.sound.types_blank c;
-      fields = undone blank_field n f f' f'' w.grew.fields w.fields (omega (arith, w.fields_within, w.grew.fields.cap, w.grew.fields.long)) k.sound.fields_blank k'.sound.fields_blank d;
-    }
+    → Kept t.rows.now t.count f.rows.now f.count → t.count ≤ length t.rows.now → f.count ≤ length f.rows.now → t.count ≡ m → f.count ≡ n
+    → Grew t f t' f' → Kept t'.rows.now t'.count f'.rows.now f'.count → Cut blank_type m t' t'' → Cut blank_field n f' f'' → Unchanged t f t'' f''
+all_undone t f m n t' f' t'' f'' k u v x y g k' c d = record {
+  types = undone blank_type m t t' t'' g.types x u k.sound.types_blank k'.sound.types_blank c;
+  fields = undone blank_field n f f' f'' g.fields y v k.sound.fields_blank k'.sound.fields_blank d;
+}
 
 pub kept_same : (t : RowList TypeRow) (f : RowList FieldRow) (t' : RowList TypeRow) (f' : RowList FieldRow) → Unchanged t f t' f'
     → Kept t.rows.now t.count f.rows.now f.count → Kept t'.rows.now t'.count f'.rows.now f'.count

@@ -3,7 +3,6 @@ use Rattle.std.specs.Prelude.{◌≡◌, ℕ, ◌<◌, ◌≤◌, min, length, s
 use Rattle.rows.specs.declared.RowList.{RowList}
 use Rattle.layout.specs.declared.row.TypeRow.{TypeRow}
 use Rattle.layout.specs.declared.row.FieldRow.{FieldRow}
-use Rattle.layout.specs.Kept.{Kept}
 
 -- Two lists hold the same.
 pub record Same {R : Type 0} (a b : RowList R) : Type 0 where
@@ -35,12 +34,3 @@ pub record Unchanged (t : RowList TypeRow) (f : RowList FieldRow) (t' : RowList 
 pub record Grew (t : RowList TypeRow) (f : RowList FieldRow) (t' : RowList TypeRow) (f' : RowList FieldRow) : Type 0 where
   pub types : Grown t t'
   pub fields : Grown f f'
-
--- t and f are a sheet's, with the counts m and n, and t' and f' grew from them.
-pub record Was (t : RowList TypeRow) (f : RowList FieldRow) (m n : ℕ) (t' : RowList TypeRow) (f' : RowList FieldRow) : Type 0 where
-  pub grew : Grew t f t' f'
-  pub kept : ∥ Kept t.rows.now t.count f.rows.now f.count ∥₁
-  pub types_within : t.count ≤ t.cap
-  pub fields_within : f.count ≤ f.cap
-  pub types : t.count ≡ m
-  pub fields : f.count ≡ n

@@ -54,7 +54,7 @@ fn form_length(length: usize) -> Result<u16, Refusal>
 pub fn array_figures(part: Figures) -> Result<Figures, Refusal>
     ensures { MatchResult result (λ f. Bounded part → Short (array_figures part) f) (λ e. Long (array_figures part) e) }
 {
-    let length = form_length(1 + part.length as usize)?;
+    let length = form_length(1 + usize::from(part.length))?;
     Ok(Figures {
         length,
         arrays: part.arrays.saturating_add(1),
@@ -68,7 +68,7 @@ pub fn array_figures(part: Figures) -> Result<Figures, Refusal>
 pub fn maybe_figures(part: Figures) -> Result<Figures, Refusal>
     ensures { MatchResult result (λ f. Short (maybe_figures part) f) (λ e. Long (maybe_figures part) e) }
 {
-    let length = form_length(1 + part.length as usize)?;
+    let length = form_length(1 + usize::from(part.length))?;
     Ok(Figures {
         length,
         dbus: 0,
@@ -82,7 +82,7 @@ pub fn maybe_figures(part: Figures) -> Result<Figures, Refusal>
 pub fn dict_figures(key: Figures, value: Figures) -> Result<Figures, Refusal>
     ensures { MatchResult result (λ f. Bounded key → Bounded value → Short (dict_figures key value) f) (λ e. Long (dict_figures key value) e) }
 {
-    let length = form_length(3 + (key.length as usize + value.length as usize))?;
+    let length = form_length(3 + (usize::from(key.length) + usize::from(value.length)))?;
     Ok(Figures {
         length,
         structures: key.structures.max(value.structures),
@@ -98,7 +98,7 @@ pub fn dict_figures(key: Figures, value: Figures) -> Result<Figures, Refusal>
 pub fn with_field(field: Figures, rest: Figures) -> Result<Figures, Refusal>
     ensures { MatchResult result (λ f. Short (with_field field rest) f) (λ e. Long (with_field field rest) e) }
 {
-    let length = form_length(field.length as usize + rest.length as usize)?;
+    let length = form_length(usize::from(field.length) + usize::from(rest.length))?;
     Ok(Figures {
         length,
         structures: field.structures.max(rest.structures),
@@ -114,7 +114,7 @@ pub fn with_field(field: Figures, rest: Figures) -> Result<Figures, Refusal>
 pub fn structure_figures(fields: Figures) -> Result<Figures, Refusal>
     ensures { MatchResult result (λ f. Bounded fields → Short (structure_figures fields) f) (λ e. Long (structure_figures fields) e) }
 {
-    let length = form_length(2 + fields.length as usize)?;
+    let length = form_length(2 + usize::from(fields.length))?;
     Ok(Figures {
         length,
         structures: fields.structures.saturating_add(1),

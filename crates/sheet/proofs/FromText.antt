@@ -20,11 +20,27 @@ use Rattle.building.specs.Building.{Fits, BuildsWhole}
 use Rattle.building.proofs.Whole.{read_long, read_faulty, read_wide, read_built}
 use Rattle.sheet.specs.declared.sheet.Sheet.{Sheet}
 use Rattle.layout.specs.Kept.{nodes_of}
-use Rattle.layout.specs.Grown.{Grew, Unchanged, Was}
+use Rattle.layout.specs.Grown.{Grew, Unchanged, Cut}
 use Rattle.layout.specs.Called.{book_of, limits_of, Called}
-use Rattle.layout.proofs.Undo.{unchanged_refl, nodes_same}
+use Rattle.rows.specs.declared.RowList.{RowList}
+use Rattle.layout.specs.declared.row.TypeRow.{TypeRow}
+use Rattle.layout.specs.declared.row.FieldRow.{FieldRow}
+use Rattle.layout.specs.Kept.{blank_type}
+use Rattle.layout.specs.Tails.{blank_field}
+use Rattle.layout.proofs.Keep.{out}
+use Rattle.sheet.specs.Seen.{GrewFrom, GrewTo}
+use Rattle.layout.proofs.Undo.{unchanged_refl, nodes_same, all_undone}
 use Rattle.sheet.proofs.Texts.{good_book, stands}
 use Rattle.layout.proofs.Undo.{limits_grew}
+
+-- a sheet that was as it was, and then grew
+pub grew_from : (s s₀ s₁ : Sheet) (m n : ℕ) → s₀ ≡ s → GrewTo s₀ s₁ → m ≡ s.types.count → n ≡ s.fields.count → GrewFrom s m n s₁
+grew_from s s₀ s₁ m n e g p q = record { grew = subst (λ (x : Sheet). GrewTo x s₁) e g; types = sym p; fields = sym q }
+
+-- rows that grew from those of a sheet and were cut back to its counts
+pub cut_back : (s s' : Sheet) (m n : ℕ) (t : RowList TypeRow) (f : RowList FieldRow) → GrewFrom s m n s' → Cut blank_type m s'.types t → Cut blank_field n s'.fields f → Unchanged s.types s.fields t f
+cut_back s s' m n t f g c d =
+    all_undone s.types s.fields m n s'.types s'.fields t f (out s.good) (omega (arith, s.types_within, s.types_usable)) (omega (arith, s.fields_within, s.fields_usable)) g.types g.fields g.grew (out s'.good) c d
 
 -- the book of a sheet has room, and no text twice
 pub fits_in : (s : Sheet) → Fits (limits_of s.types s.fields) (book_of s.types s.fields)
@@ -92,6 +108,3 @@ module _ (s s₀ s₁ : Sheet) (w : Text) (n : ℕ) (same : s₀ ≡ s) (j : Jud
         stands = stands s₂;
         unchanged = u;
       }
-
-  pub was : (m l : ℕ) → m ≡ s.types.count → l ≡ s.fields.count → Was s.types s.fields m l s₁.types s₁.fields
-  was m l e f = record { grew = grew_in; kept = s.good; types_within = s.types_within; fields_within = s.fields_within; types = sym e; fields = sym f }

@@ -28,7 +28,7 @@ use Rattle.std.specs.Result.{MatchResult}
 use Rattle.std.specs.Result.{IsErrAnd}
 use Rattle.std.proofs.lemmas.Result.{err_from_is_err_and}
 use Rattle.grammar.specs.declared.error.Refusal.{Refusal}
-use Rattle.grammar.specs.declared.error.Refusal.TheVariants.{Unknown}
+use Rattle.grammar.specs.declared.error.Refusal.TheVariants.{Unknown, WrongKind}
 use Rattle.layout.specs.Figured.{NotKnown}
 use Rattle.layout.specs.Kept.{figures_in}
 use Rattle.layout.proofs.Keep.{out}
@@ -258,8 +258,6 @@ numbered_row (Some x) f n i e h g p =
     ∙ tails_at_is (fields_in f) g i (omega (arith, length-take-le f.count f.rows.now h, p.below))
     ∙ ap (λ (u : FieldRow). u.field ∷ tail_at (tails_in f) u.next) (get_or-take f.count f.rows.now i blank_field (omega (arith, p.below)) ∙ sym (p.here blank_field))
 
-pub no_alignment : (format : Format) (x : Figures) → alignment_in format x ≡ 0 → refused 6 [] ≡ alignment (alignment_in format x)
-no_alignment format x e = rw (eq-eqb (alignment_in format x) 0 e)
-
-pub an_alignment : {a : ℕ} (format : Format) (x : Figures) → a ≡ alignment_in format x → (a ≡ 0 → ⊥) → accepted a ≡ alignment (alignment_in format x)
-an_alignment format x e z = rw (ne_eqb (alignment_in format x) 0 (λ q. z (e ∙ q))) (ap accepted e)
+pub alignment_or : (o : Answered ℕ) (a : ℕ) → MatchOption o (a ≡ 0) (λ x. (x ≡ a) × (0 < x)) → outcome (ok_or o WrongKind) ≡ alignment a
+alignment_or None a h = rw (eq-eqb a 0 h) refl
+alignment_or (Some x) a h = rw (ne_eqb a 0 (omega arith)) (ap accepted h.0)

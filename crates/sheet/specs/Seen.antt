@@ -1,10 +1,10 @@
 -- A sheet as the plain book of its texts, and what calls on it say.
-use Rattle.std.specs.Prelude.{ℕ, List}
+use Rattle.std.specs.Prelude.{◌≡◌, ℕ, List}
 use Rattle.grammar.specs.Shape.{Text}
 use Rattle.book.specs.Nodes.{Node}
 use Rattle.book.specs.Plain.{Answer, Call, Limits}
 use Rattle.layout.specs.Called.{book_of, limits_of, Called}
-use Rattle.layout.specs.Grown.{Grew}
+use Rattle.layout.specs.Grown.{Grew, Unchanged}
 use Rattle.layout.specs.Kept.{nodes_of, tails_in}
 use Rattle.layout.specs.Made.{Made}
 use Rattle.sheet.specs.declared.sheet.Sheet.{Sheet}
@@ -35,3 +35,13 @@ MadeOn s s' r said = Made s.types s.fields s'.types s'.fields r said
 -- Rows may have been added, and those that were in use are as they were.
 abbrev pub GrewTo : Sheet → Sheet → Type 0
 GrewTo s s' = Grew s.types s.fields s'.types s'.fields
+
+-- s' grew from s, which had so many rows of each kind in use.
+pub record GrewFrom (s : Sheet) (m n : ℕ) (s' : Sheet) : Type 0 where
+  pub grew : GrewTo s s'
+  pub types : s.types.count ≡ m
+  pub fields : s.fields.count ≡ n
+
+-- the two hold the same
+abbrev pub UnchangedOn : Sheet → Sheet → Type 0
+UnchangedOn s s' = Unchanged s.types s.fields s'.types s'.fields

@@ -1,5 +1,5 @@
 // The figures of a signature, worked out from those of its parts.
-ghost use Rattle.std.specs.Prelude.{◌≡◌, MatchResult};
+ghost use Rattle.std.specs.Prelude.{◌≡◌, ◌<◌, MatchOption, MatchResult};
 ghost use Rattle.layout.specs.Figured.{Figured, NotKnown};
 ghost use Rattle.layout.specs.Format.{format_of};
 ghost use Rattle.book.specs.Questions.{string_length_of, fixed_of, maybe_of, depths_of, alignment_in, alignment_of};
@@ -13,14 +13,15 @@ use grammar::figures::Figures;
 use layout::figures::first_figures;
 use layout::serialized::Format;
 
-// The alignment among the figures; 0 is none.
-fn alignment_in(figures: Figures, format: Format) -> u8
-    ensures { result ≡ alignment_in (format_of format) figures }
+// The alignment among the figures, if there is one.
+fn alignment_in(figures: Figures, format: Format) -> Option<u8>
+    ensures { MatchOption result (alignment_in (format_of format) figures ≡ 0) (λ a. (a ≡ alignment_in (format_of format) figures) × (0 < a)) }
 {
-    match format {
+    let alignment = match format {
         Format::DBus => figures.dbus,
         Format::GVariant => figures.gvariant,
-    }
+    };
+    (alignment > 0).then_some(alignment)
 }
 
 impl<'a> Sheet<'a> {
@@ -53,12 +54,7 @@ impl<'a> Sheet<'a> {
         ensures answer { outcome result ≡ alignment_of (format_of format) (book_in self.old) n }
     {
         let figures = self.figures(n, 0)?;
-        let alignment = alignment_in(figures, format);
-        if alignment == 0 {
-            Err(Refusal::WrongKind)
-        } else {
-            Ok(alignment)
-        }
+        alignment_in(figures, format).ok_or(Refusal::WrongKind)
     }
 
     // Whether each value has the same size.

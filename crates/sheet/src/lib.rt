@@ -1,6 +1,7 @@
 // A sheet of signatures: equal shapes have one number, on rows that the caller lends.
 #![tactic(auto)]
 
+mod back;
 pub mod child;
 pub mod comparison;
 mod entering;

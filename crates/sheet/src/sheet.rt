@@ -1,9 +1,7 @@
 // The sheet itself: what it always keeps, opening it, and its rows.
 ghost use Rattle.std.specs.Prelude.{◌≡◌, ◌<◌, ◌≤◌, length, MatchOption};
 ghost use Rattle.rows.specs.Found.{Located};
-ghost use Rattle.layout.specs.Kept.{Kept, blank_type};
-ghost use Rattle.layout.specs.Tails.{blank_field};
-ghost use Rattle.layout.specs.Grown.{Cut, Was, Unchanged};
+ghost use Rattle.layout.specs.Kept.{Kept};
 ghost use Rattle.layout.specs.Called.{Opened};
 
 use layout::row::{FieldRow, TypeRow};
@@ -62,26 +60,4 @@ impl<'a> Sheet<'a> {
     {
         self.fields.row(i)
     }
-
-    // Goes back to the rows that were in use at these counts.
-    pub(crate) fn back(&mut self, types: usize, fields: usize)
-        requires { (t : RowList TypeRow) × (f : RowList FieldRow) × Was t f types fields self.old.types self.old.fields }
-        ensures { (t : RowList TypeRow) (f : RowList FieldRow) → Was t f types fields self.old.types self.old.fields → Unchanged t f self.new.types self.new.fields }
-    {
-        cut(&mut self.types, &mut self.fields, types, fields);
-    }
-}
-
-// Puts the rows from these places on out of use.
-fn cut(
-    types: &mut RowList<TypeRow>,
-    fields: &mut RowList<FieldRow>,
-    types_to: usize,
-    fields_to: usize,
-)
-    ensures types { Cut blank_type types_to types.old types.new }
-    ensures fields { Cut blank_field fields_to fields.old fields.new }
-{
-    types.truncate(types_to, TypeRow::BLANK);
-    fields.truncate(fields_to, FieldRow::BLANK);
 }

@@ -8,5 +8,5 @@ returns-in_err-row-clause-answer c = let u = c.in_err-row.ensures.row in exit_un
 pub returns-in-Array-clause-answer : goal.returns-in-Array-clause-answer
 returns-in-Array-clause-answer c = child_yes c.args.self.now c.args.n _ c.in_ok-row.ensures.row c.in-Array.is
 
-pub returns-in_default : goal.returns-in_default
-returns-in_default c = record { same = c.container.ensures.same; answer = child_no c.args.self.now c.args.n _ c.in_ok-row.ensures.row c.in_default.not-Array c.in_default.not-Maybe }
+pub returns-in_default-clause-answer : goal.returns-in_default-clause-answer
+returns-in_default-clause-answer c = child_no c.args.self.now c.args.n _ c.in_ok-row.ensures.row c.in_default.not-Array c.in_default.not-Maybe

@@ -1,6 +1,6 @@
 use Rattle.std.proofs.Common.{◌≤◌, ◌⊎◌, length, inl, inr}
 use Rattle.std.proofs.lemmas.Result.{err_from_is_err_and}
-use Rattle.sheet.proofs.FromText.{refused_called, wide_called, built_called, undone_called, was}
+use Rattle.sheet.proofs.FromText.{refused_called, wide_called, built_called, undone_called, grew_from}
 use Rattle.sheet.proofs.sheet.Sheet.from_bytes.Goals as goal
 use Rattle.sheet.proofs.sheet.Sheet.from_bytes.Goals.{else-types-gt1-via-then-types-gt1+else-text-gt-LONGEST_ROW, else-types-gt1-via-else-types-gt1}
 
@@ -34,4 +34,7 @@ returns-in-Err c =
     let s₁ = c.enter.new.sheet in
     let n = c.counts-type_rows.ensures in
     undone_called s s₀ s₁ _ _ n.same e.judged e.counted narrow c.enter.ensures.grew _ c.back.new.self c.in-Err.ensures.builds
-    (c.back.ensures _ _ (was s s₀ s₁ _ _ n.same e.judged e.counted narrow c.enter.ensures.grew _ _ n.types n.fields))
+    (c.back.ensures s (grew_from s s₀ s₁ _ _ n.same c.enter.ensures.grew n.types n.fields))
+
+pub back-requires : goal.back-requires
+back-requires c = let n = c.counts-type_rows.ensures in (c.args.self.now, grew_from _ _ _ _ _ n.same c.enter.ensures.grew n.types n.fields)

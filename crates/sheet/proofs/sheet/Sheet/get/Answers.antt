@@ -15,5 +15,5 @@ returns-in-Structure-clause-answer c =
     ap accepted (c.item.ensures.item ∙ ap (λ (u : Sheet). item_at (tail_at (tails_on u) c.in_ok-row.row.first) c.args.i) c.container.ensures.same)
     ∙ get_yes c.args.self.now c.args.n _ c.in_ok-row.ensures.row c.args.i c.in-Structure.is
 
-pub returns-in_default : goal.returns-in_default
-returns-in_default c = record { same = c.container.ensures.same; answer = get_no c.args.self.now c.args.n _ c.in_ok-row.ensures.row c.args.i c.in_default.not-Structure }
+pub returns-in_default-clause-answer : goal.returns-in_default-clause-answer
+returns-in_default-clause-answer c = get_no c.args.self.now c.args.n _ c.in_ok-row.ensures.row c.args.i c.in_default.not-Structure

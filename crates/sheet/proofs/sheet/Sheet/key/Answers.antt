@@ -8,5 +8,5 @@ returns-in_err-pair-clause-answer c = let u = c.in_err-pair.ensures.row in exit_
 pub returns-in-Dict-clause-answer : goal.returns-in-Dict-clause-answer
 returns-in-Dict-clause-answer c = key_yes c.args.self.now c.args.n _ c.in_ok-pair.ensures.row c.in-Dict.is
 
-pub returns-in_default : goal.returns-in_default
-returns-in_default c = record { same = c.container.ensures.same; answer = key_no c.args.self.now c.args.n _ c.in_ok-pair.ensures.row c.in_default.not-Dict }
+pub returns-in_default-clause-answer : goal.returns-in_default-clause-answer
+returns-in_default-clause-answer c = key_no c.args.self.now c.args.n _ c.in_ok-pair.ensures.row c.in_default.not-Dict

@@ -8,5 +8,5 @@ returns-in_err-row-clause-answer c = let u = c.in_err-row.ensures.row in exit_un
 pub returns-in-Structure-clause-answer : goal.returns-in-Structure-clause-answer
 returns-in-Structure-clause-answer c = len_yes c.args.self.now c.args.n _ c.in_ok-row.ensures.row c.in-Structure.is
 
-pub returns-in_default : goal.returns-in_default
-returns-in_default c = record { same = c.container.ensures.same; answer = len_no c.args.self.now c.args.n _ c.in_ok-row.ensures.row c.in_default.not-Structure }
+pub returns-in_default-clause-answer : goal.returns-in_default-clause-answer
+returns-in_default-clause-answer c = len_no c.args.self.now c.args.n _ c.in_ok-row.ensures.row c.in_default.not-Structure
