@@ -1,6 +1,7 @@
 -- Types in a row, on a stack of numbers; a number behind its 'm'; a whole text.
-use Rattle.std.proofs.Common.{◌≡◌, ℕ, zero, suc, ◌+◌, ◌-◌, ◌<◌, ◌≤◌, Bool, true, false, ◌⊎◌, List, [], ◌∷◌, ◌++◌, map, length, get_or, take, drop, set, Ok, Err, Result, sym, refl, ap, ◌∙◌, subst, inl, inr, append_assoc, append-nil, arith, length-append, length-drop}
+use Rattle.std.proofs.Common.{◌≡◌, ℕ, zero, suc, ◌+◌, ◌-◌, ◌<◌, ◌≤◌, Bool, true, false, ◌⊎◌, List, [], ◌∷◌, ◌++◌, map, length, get_or, take, take_all, drop, set, Ok, Err, Result, sym, refl, ap, ◌∙◌, subst, inl, inr, append_assoc, append-nil, arith, length-append, length-drop}
 use Rattle.std.proofs.lemmas.List.{drop_all, take_more_set, drop-append-le, length-take-le, take-take, take-set-le, drop-take}
+use Rattle.std.proofs.Math.Seq.{drop-append_seam}
 use Rattle.grammar.specs.declared.error.Refusal.{Refusal}
 use Rattle.grammar.specs.Shape.{Text, Shape, structure, maybe, Shapes, nil, more, printed, printed_all}
 use Rattle.grammar.specs.Parts.{containers}
@@ -13,24 +14,9 @@ use Rattle.building.proofs.Growth.{with_maybe, with_structure, with_joined, with
 use Rattle.building.proofs.Exits.{comes_from, maybe_made, structure_made}
 use Rattle.building.proofs.Views.{un, never_41, never_empty}
 
--- The stack of numbers that wait for their structure.
-pub none_yet : (p : List ℕ) (n : ℕ) → n ≤ length p → drop n (take n p) ≡ []
-none_yet p n h = drop_all n (take n p) (omega (arith, length-take-le n p h))
-
-pub pushed : (p p' : List ℕ) (base top n : ℕ) → base ≤ top → top < length p' → take top p' ≡ take top p → drop base (take (top + 1) (set p' top n)) ≡ drop base (take top p) ++ n ∷ []
-pushed p p' base top n h l e =
-    ap (drop base) (take_more_set p' top n l ∙ ap (λ (u : List ℕ). u ++ n ∷ []) e) ∙ drop-append-le base (take top p) (n ∷ []) (omega (arith, length-take-le top p' (omega arith), ap length e))
-
-pub sliced : (p : List ℕ) (base top : ℕ) → base ≤ top → take (top - base) (drop base p) ≡ drop base (take top p)
-sliced p base top h =
-    let e : base + (top - base) ≡ top = omega arith in
-    sym (drop-take base (top - base) p) ∙ ap (λ (n : ℕ). drop base (take n p)) e
-
-pub below : (p p' : List ℕ) (base top : ℕ) → base ≤ top → take top p' ≡ take top p → take base p' ≡ take base p
-below p p' base top h e = sym (take-take base top p' h) ∙ ap (take base) e ∙ take-take base top p h
-
-pub below_set : (p p' : List ℕ) (base top n : ℕ) → base ≤ top → take top p' ≡ take top p → take base (set p' top n) ≡ take base p
-below_set p p' base top n h e = take-set-le base p' top n h ∙ below p p' base top h e
+-- the numbers on a stack behind those that lay there before
+pub those_after : (s xs ns : List ℕ) (n : ℕ) → s ≡ xs ++ ns → n ≡ length xs → take (length s - n) (drop n s) ≡ ns
+those_after s xs ns n e h = rw (e, h, drop-append_seam) (take_all _ ns (omega (arith, length-append xs ns)))
 
 pub eaten_on : (text : Text) (at b to : ℕ) (r : Bool) → Eaten text at b r to → at ≤ to
 eaten_on text at b to true x = omega (arith, x.past)

@@ -38,3 +38,7 @@ on_err P r e q = subst (λ (x : Result ℕ Refusal). IfOk x P) (sym q) tt
 pub ok_before : (from at to : ℕ) (r : Result ℕ Refusal) → (at < to → from < to) → IfOk r (λ n. at < to) → IfOk r (λ n. from < to)
 ok_before from at to (Ok n) h p = h p
 ok_before from at to (Err e) h p = tt
+
+-- What the calls keep, of a maker and what came of it.
+pub goes_from : {M : Type 0} {P : M → M → Type 0} {L : M → Limits} {m m' : M} → Goes P L m m' → P m m → P m m'
+goes_from g p = g.grew _ p

@@ -1,34 +1,31 @@
 // The types of a valid text, entered with a maker: a list of types and a type call for each other, as in reading.
-//
-// The numbers of fields that wait for their structure lie on a stack that all levels share, `pending`, from `top` on; a
-// text needs no more places there than it has bytes.
-ghost use Rattle.std.specs.Prelude.{◌≡◌, ℕ, ◌+◌, ◌-◌, ◌<◌, ◌≤◌, true, length, take, IfOk};
+ghost use Rattle.std.specs.Prelude.{◌≡◌, [], ◌+◌, ◌-◌, ◌≤◌, ◌==◌, false, length, position, MatchOption};
 ghost use Rattle.grammar.specs.Shape.{is_basic};
 ghost use Rattle.building.specs.Building.{CodeNumber, Builds, BuildsBare, BuildsFields, BuildsWhole, Goes, Skips, Wraps};
 
 use crate::maker::Maker;
+use arrayvec::ArrayVec;
+use grammar::codes::CODES;
 use grammar::error::Refusal;
+use grammar::limits::LONGEST_TEXT;
 use reader::cursor::Cursor;
-
-// The basic types, in the order of their numbers, which begin with 1.
-const CODES: [u8; 14] = *b"ybnqiuxtdsgovh";
 
 // How many bytes a text may have for the small stack of pending fields.
 const FEW: usize = 256;
 
-// The most bytes that a text may have.
-const LONGEST_TEXT: usize = 65535;
-
-// The number of the basic type whose code is `b`; 0 where there is none.
-fn code_number(b: u8) -> u16
-    ensures { is_basic b ≡ true → CodeNumber b result }
+// Where `b` stands first in `bytes`.
+fn place_of(b: u8, bytes: &[u8]) -> Option<usize>
+    ensures { result ≡ position (λ c. c == b) bytes.now }
 {
-    for (i, c) in CODES.iter().enumerate() {
-        if *c == b {
-            return i as u16 + 1;
-        }
-    }
-    0
+    bytes.iter().position(|c| *c == b)
+}
+
+// The number of the basic type whose code is `b`.
+fn code_number(b: u8) -> Option<u16>
+    ensures { MatchOption result (is_basic b ≡ false) (λ n. CodeNumber b n) }
+{
+    let i = place_of(b, &CODES)?;
+    Some(i as u16 + 1)
 }
 
 // How many `m` come next, which are passed.
@@ -44,8 +41,8 @@ fn skip_maybes(cursor: &mut Cursor) -> usize
 
 // `n` behind so many `m`.
 fn wrap<M: Maker>(maker: &mut M, n: u16, maybes: usize) -> Result<u16, Refusal>
-    ensures grew { Goes M.Maker.grew M.Maker.limits maker.old maker.new }
-    ensures wraps { Wraps (M.Maker.limits maker.old) maybes n (M.Maker.book maker.old) result (M.Maker.book maker.new) }
+    ensures grew { Goes M.grew M.limits maker.old maker.new }
+    ensures wraps { Wraps (M.limits maker.old) maybes n (M.book maker.old) result (M.book maker.new) }
 {
     let mut n = n;
     for _i in 0..maybes {
@@ -54,136 +51,129 @@ fn wrap<M: Maker>(maker: &mut M, n: u16, maybes: usize) -> Result<u16, Refusal>
     Ok(n)
 }
 
-// The types up to `)`, and the structure of them.
-#[cycle(bare_signature_many_signature)]
-fn many<M: Maker>(
-    maker: &mut M,
-    cursor: &mut Cursor,
-    pending: &mut [u16],
-    base: usize,
-) -> Result<u16, Refusal>
-    requires room { base + (length cursor.old.text.now - cursor.old.at) ≤ length pending.old }
-    ensures text { cursor.new.text.now ≡ cursor.old.text.now }
-    ensures forward { IfOk result (λ n. cursor.old.at < cursor.new.at) }
-    ensures kept { take base pending.new ≡ take base pending.old }
-    ensures grew { Goes M.Maker.grew M.Maker.limits maker.old maker.new }
-    ensures builds { BuildsFields (M.Maker.limits maker.old) cursor.old.text.now cursor.old.at (M.Maker.book maker.old) result cursor.new.at (M.Maker.book maker.new) }
-{
-    let mut top = base;
-    while !cursor.eat(b')') {
-        let n = signature(maker, cursor, pending, top)?;
-        pending[top] = n;
-        top += 1;
-    }
-    maker.make_structure(&pending[base..top])
+// What enters a text with a maker, at a place in the text. The numbers of fields that wait for their structure lie on a
+// stack that all levels share; a text needs no more places there than it has bytes.
+#[derive(Drop)]
+struct Builder<'m, 't, M, const N: usize> {
+    maker: &'m mut M,
+    cursor: Cursor<'t>,
+    pending: ArrayVec<u16, N>,
+    ghost room: { length pending.items + (length cursor.text.now - cursor.at) ≤ N },
 }
 
-// A complete type that is no maybe.
-#[cycle(bare_signature_many_signature)]
-fn bare_signature<M: Maker>(
-    maker: &mut M,
-    cursor: &mut Cursor,
-    pending: &mut [u16],
-    top: usize,
-) -> Result<u16, Refusal>
-    requires room { top + (length cursor.old.text.now - cursor.old.at) ≤ length pending.old }
-    ensures text { cursor.new.text.now ≡ cursor.old.text.now }
-    ensures forward { IfOk result (λ n. cursor.old.at < cursor.new.at) }
-    ensures kept { take top pending.new ≡ take top pending.old }
-    ensures grew { Goes M.Maker.grew M.Maker.limits maker.old maker.new }
-    ensures builds { BuildsBare (M.Maker.limits maker.old) cursor.old.text.now cursor.old.at (M.Maker.book maker.old) result cursor.new.at (M.Maker.book maker.new) }
-{
-    let Some(b) = cursor.take() else {
-        return Err(Refusal::NoRows);
-    };
-    if b == b'a' {
-        if cursor.eat(b'{') {
-            let key = signature(maker, cursor, pending, top)?;
-            let value = signature(maker, cursor, pending, top)?;
-            let _ = cursor.eat(b'}');
-            maker.make_dict(key, value)
-        } else {
-            let child = signature(maker, cursor, pending, top)?;
-            maker.make_array(child)
+impl<'m, 't, M: Maker, const N: usize> Builder<'m, 't, M, N> {
+    ghost use Rattle.building.specs.Steps.{Came, Went};
+
+    // At the start of a text of at most `N` bytes.
+    fn new(maker: &'m mut M, text: &'t [u8]) -> Builder<'m, 't, M, N>
+        requires room { length text.now ≤ N }
+        requires small { N ≤ 65535 }
+        ensures same_maker { result.maker.ghost_name ≡ maker.entry.ghost_name }
+        ensures maker { result.maker.now ≡ maker.old }
+        ensures text { result.cursor.text.now ≡ text.now }
+        ensures start { result.cursor.at ≡ 0 }
+        ensures empty { result.pending.items ≡ [] }
+    {
+        Builder {
+            maker,
+            cursor: Cursor::new(text),
+            pending: ArrayVec::new(),
         }
-    } else if b == b'(' {
-        many(maker, cursor, pending, top)
-    } else {
-        Ok(code_number(b))
+    }
+
+    // The types up to `)`, and the structure of them.
+    #[cycle(bare_signature_many_signature)]
+    fn many(&mut self) -> Result<u16, Refusal>
+        ensures went { Went M.grew M.limits self.old self.new result }
+        ensures builds { Came BuildsFields M.limits M.book self.old result self.new }
+    {
+        let base = self.pending.len();
+        while !self.cursor.eat(b')') {
+            let n = self.signature()?;
+            self.pending.push(n);
+        }
+        let structure = self.maker.make_structure(&self.pending.as_slice()[base..]);
+        self.pending.truncate(base);
+        structure
+    }
+
+    // A complete type that is no maybe.
+    #[cycle(bare_signature_many_signature)]
+    fn bare_signature(&mut self) -> Result<u16, Refusal>
+        ensures went { Went M.grew M.limits self.old self.new result }
+        ensures builds { Came BuildsBare M.limits M.book self.old result self.new }
+    {
+        let Some(b) = self.cursor.take() else {
+            return Err(Refusal::NoRows);
+        };
+        match b {
+            b'a' => {
+                if self.cursor.eat(b'{') {
+                    let key = self.signature()?;
+                    let value = self.signature()?;
+                    let _ = self.cursor.eat(b'}');
+                    self.maker.make_dict(key, value)
+                } else {
+                    let child = self.signature()?;
+                    self.maker.make_array(child)
+                }
+            }
+            b'(' => self.many(),
+            _ => code_number(b).ok_or(Refusal::NoRows),
+        }
+    }
+
+    // A complete type.
+    #[cycle(bare_signature_many_signature)]
+    fn signature(&mut self) -> Result<u16, Refusal>
+        ensures went { Went M.grew M.limits self.old self.new result }
+        ensures builds { Came Builds M.limits M.book self.old result self.new }
+    {
+        let maybes = skip_maybes(&mut self.cursor);
+        let n = self.bare_signature()?;
+        wrap(self.maker, n, maybes)
+    }
+
+    // All types up to the end of the text, and the number of the whole.
+    fn whole(&mut self) -> Result<u16, Refusal>
+        requires start { self.old.cursor.at ≡ 0 }
+        requires empty { self.old.pending.items ≡ [] }
+        ensures same_maker { self.new.maker.ghost_name ≡ self.old.maker.ghost_name }
+        ensures grew { Goes M.grew M.limits self.old.maker.now self.new.maker.now }
+        ensures builds { BuildsWhole (M.limits self.old.maker.now) self.old.cursor.text.now (M.book self.old.maker.now) result (M.book self.new.maker.now) }
+    {
+        while !self.cursor.at_end() {
+            let n = self.signature()?;
+            self.pending.push(n);
+        }
+        match self.pending.as_slice() {
+            [] => Ok(0),
+            [n] => Ok(*n),
+            all => self.maker.make_structure(all),
+        }
     }
 }
 
-// A complete type.
-#[cycle(bare_signature_many_signature)]
-fn signature<M: Maker>(
-    maker: &mut M,
-    cursor: &mut Cursor,
-    pending: &mut [u16],
-    top: usize,
-) -> Result<u16, Refusal>
-    requires room { top + (length cursor.old.text.now - cursor.old.at) ≤ length pending.old }
-    ensures text { cursor.new.text.now ≡ cursor.old.text.now }
-    ensures forward { IfOk result (λ n. cursor.old.at < cursor.new.at) }
-    ensures kept { take top pending.new ≡ take top pending.old }
-    ensures grew { Goes M.Maker.grew M.Maker.limits maker.old maker.new }
-    ensures builds { Builds (M.Maker.limits maker.old) cursor.old.text.now cursor.old.at (M.Maker.book maker.old) result cursor.new.at (M.Maker.book maker.new) }
-{
-    let maybes = skip_maybes(cursor);
-    let n = bare_signature(maker, cursor, pending, top)?;
-    wrap(maker, n, maybes)
-}
-
-// All types of the text, and the number of the whole.
-fn whole<M: Maker>(maker: &mut M, text: &[u8], pending: &mut [u16]) -> Result<u16, Refusal>
-    requires room { length text.now ≤ length pending.old }
-    ensures grew { Goes M.Maker.grew M.Maker.limits maker.old maker.new }
-    ensures builds { BuildsWhole (M.Maker.limits maker.old) text.now (M.Maker.book maker.old) result (M.Maker.book maker.new) }
-{
-    let mut cursor = Cursor::new(text);
-    let mut top = 0;
-    while !cursor.at_end() {
-        let n = signature(maker, &mut cursor, pending, top)?;
-        pending[top] = n;
-        top += 1;
-    }
-    if top == 0 {
-        Ok(0)
-    } else if top == 1 {
-        Ok(pending[0])
-    } else {
-        maker.make_structure(&pending[..top])
-    }
-}
-
-// A text of at most `FEW` bytes.
-fn short<M: Maker>(maker: &mut M, text: &[u8]) -> Result<u16, Refusal>
-    requires room { length text.now ≤ 256 }
-    ensures grew { Goes M.Maker.grew M.Maker.limits maker.old maker.new }
-    ensures builds { BuildsWhole (M.Maker.limits maker.old) text.now (M.Maker.book maker.old) result (M.Maker.book maker.new) }
-{
-    let mut pending = [0u16; 256];
-    whole(maker, text, &mut pending)
-}
-
-fn long<M: Maker>(maker: &mut M, text: &[u8]) -> Result<u16, Refusal>
+// All types of a text of any length. This is no part of `build`, so that a short text does not pay for so much stack.
+#[inline(never)]
+fn build_long<M: Maker>(maker: &mut M, text: &[u8]) -> Result<u16, Refusal>
     requires room { length text.now ≤ 65535 }
-    ensures grew { Goes M.Maker.grew M.Maker.limits maker.old maker.new }
-    ensures builds { BuildsWhole (M.Maker.limits maker.old) text.now (M.Maker.book maker.old) result (M.Maker.book maker.new) }
+    ensures grew { Goes M.grew M.limits maker.old maker.new }
+    ensures builds { BuildsWhole (M.limits maker.old) text.now (M.book maker.old) result (M.book maker.new) }
 {
-    let mut pending = [0u16; 65535];
-    whole(maker, text, &mut pending)
+    Builder::<M, LONGEST_TEXT>::new(maker, text).whole()
 }
 
 // All types of the text, on a stack of pending fields that suits its length, and the number of the whole. A text that no
 // signature is as long as is refused.
 pub fn build<M: Maker>(maker: &mut M, text: &[u8]) -> Result<u16, Refusal>
-    ensures grew { Goes M.Maker.grew M.Maker.limits maker.old maker.new }
-    ensures builds { BuildsWhole (M.Maker.limits maker.old) text.now (M.Maker.book maker.old) result (M.Maker.book maker.new) }
+    ensures grew { Goes M.grew M.limits maker.old maker.new }
+    ensures builds { BuildsWhole (M.limits maker.old) text.now (M.book maker.old) result (M.book maker.new) }
 {
     if text.len() <= FEW {
-        short(maker, text)
+        Builder::<M, FEW>::new(maker, text).whole()
     } else if text.len() <= LONGEST_TEXT {
-        long(maker, text)
+        build_long(maker, text)
     } else {
         Err(Refusal::TextTooLong)
     }

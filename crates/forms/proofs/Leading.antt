@@ -1,95 +1,88 @@
--- The steps to a byte: in a dictionary's parts, and along a structure's fields.
-use Rattle.std.proofs.Common.{◌≡◌, ℕ, ◌-◌, ◌<◌, ◌≤◌, List, [], ◌∷◌, ◌++◌, length, get_or, Some, None, Option, sym, refl, ap, ◌∙◌, subst, inl, inr, append_assoc, arith, ne_eqb, MatchOption}
+-- The steps to a byte: along the parts of a container, and by its row.
+use Rattle.std.proofs.Common.{◌≡◌, ℕ, ◌+◌, ◌-◌, ◌<◌, ◌≤◌, List, [], ◌∷◌, ◌++◌, length, slice_get, nat_eq, Option, sym, refl, ap, ◌∙◌, subst, inl, inr, append_assoc, arith}
+use Rattle.std.specs.Bool.{then_some}
 use Rattle.grammar.specs.Lists.{In}
 use Rattle.grammar.specs.Shape.{Text}
-use Rattle.rows.specs.Found.{Located}
 use Rattle.book.specs.Plain.{text_of, texts}
-use Rattle.book.specs.Nodes.{Node, maybe}
+use Rattle.book.specs.Nodes.{maybe, dict}
 use Rattle.sheet.specs.declared.sheet.Sheet.{Sheet}
+use Rattle.sheet.specs.Seen.{book_in}
 use Rattle.layout.specs.declared.row.TypeRow.{TypeRow}
 use Rattle.layout.specs.declared.row.FieldRow.{FieldRow}
+use Rattle.layout.specs.declared.row.Kind.{Kind}
+use Rattle.layout.specs.declared.row.Kind.TheVariants.{Array, Dict, Structure}
 use Rattle.layout.specs.Kept.{node_by, fields_in}
 use Rattle.forms.specs.declared.bytes.Step.{Step}
 use Rattle.forms.specs.declared.bytes.Step.TheVariants.{Done, Part}
-use Rattle.sheet.specs.Seen.{book_in}
 use Rattle.forms.specs.Steps.{node_text, parts_of, node_in, fields_from, FieldHere, Within, Leads}
-use Rattle.forms.proofs.At.{at_behind, at_left, at_right, at_last, at_none}
-use Rattle.forms.proofs.Texts.{no_fields_are, field_here, row_text, row_part}
+use Rattle.forms.proofs.At.{at_behind, at_left, at_right, at_last}
+use Rattle.forms.proofs.Texts.{Row, row_text, row_part}
 
--- A dictionary's key, value and closing brace.
-module _ (b : List Text) (k v p first : ℕ) (long : first ≡ length (text_of b k)) where
-  abbrev body : Text
-  body = text_of b k ++ (text_of b v ++ 125 ∷ [])
+-- Byte p of the parts `all` in a row and the byte c behind them is byte `left` of the parts `here`, the last of all, and c.
+pub record Reached (b : List Text) (c : ℕ) (all : List ℕ) (p : ℕ) (here : List ℕ) (left : ℕ) : Type 0 where
+  pub same : slice_get (texts b here ++ c ∷ []) left ≡ slice_get (texts b all ++ c ∷ []) p
+  pub among : (m : ℕ) → In m here → In m all
 
-  pub pair_key : p < first → Within b body (k ∷ v ∷ []) p k p
-  pair_key l = record { part = inl refl; byte = sym (at_left (text_of b k) (text_of b v ++ 125 ∷ []) p (omega arith)) }
+pub at_start : (b : List Text) (c : ℕ) (all : List ℕ) (p : ℕ) → Reached b c all p all p
+at_start b c all p = record { same = refl; among = λ m i. i }
 
-  module _ (l : first ≤ p) where
-    behind : get_or body p 0 ≡ get_or (text_of b v ++ 125 ∷ []) (p - first) 0
-    behind = at_right (text_of b k) (text_of b v ++ 125 ∷ []) first p (p - first) long l refl
+module _ {b : List Text} {c : ℕ} {all : List ℕ} {p : ℕ} where
+  pub at_end : {left : ℕ} → Reached b c all p [] left → then_some (nat_eq left 0) c ≡ slice_get (texts b all ++ c ∷ []) p
+  at_end {left} r = at_last c left ∙ r.same
 
-    module _ (second : ℕ) (long₂ : second ≡ length (text_of b v)) where
-      pub pair_value : p - first < second → Within b body (k ∷ v ∷ []) p v (p - first)
-      pair_value i = record { part = inr (inl refl); byte = sym (behind ∙ at_left (text_of b v) (125 ∷ []) (p - first) (omega arith)) }
+  module _ {f : ℕ} {fs : List ℕ} {left : ℕ} (r : Reached b c all p (f ∷ fs) left) where
+    split : slice_get (text_of b f ++ (texts b fs ++ c ∷ [])) left ≡ slice_get (texts b all ++ c ∷ []) p
+    split = ap (λ (t : Text). slice_get t left) (sym (append_assoc (text_of b f) (texts b fs) (c ∷ []))) ∙ r.same
 
-      past : second ≤ p - first → get_or (125 ∷ []) (p - first - second) 0 ≡ get_or body p 0
-      past i = sym (behind ∙ at_right (text_of b v) (125 ∷ []) second (p - first) (p - first - second) long₂ i refl)
+    -- in the part f, or past it
+    pub in_part : left < length (text_of b f) → Within b (texts b all ++ c ∷ []) all p f left
+    in_part l = record { part = r.among f (inl refl); byte = sym (at_left (text_of b f) (texts b fs ++ c ∷ []) left l) ∙ split }
 
-      pub pair_last : p - first ≡ second → 125 ≡ get_or body p 0
-      pair_last e = at_last 125 (p - first - second) (omega arith) ∙ past (omega arith)
+    pub past_part : {rest : ℕ} → length (text_of b f) + rest ≡ left → Reached b c all p fs rest
+    past_part {rest} e = record { same = sym (at_right (text_of b f) (texts b fs ++ c ∷ []) left rest e) ∙ split; among = λ m i. r.among m (inr i) }
 
-      pub pair_none : second ≤ p - first → (p - first ≡ second → ⊥) → 0 ≡ get_or body p 0
-      pair_none i e = at_none 125 (p - first - second) (λ z. e (omega arith)) ∙ past i
+-- at a field row, the parts that are left are its field and those behind it
+pub onto : {s s' : Sheet} {all : List ℕ} {p at left : ℕ} {x : FieldRow} → Reached (book_in s) 41 all p (fields_from s at) left → s' ≡ s → FieldHere s' at x
+    → Reached (book_in s) 41 all p (x.field ∷ fields_from s x.next) left
+onto {s} {s'} {all} {p} {at} {left} {x} r e h =
+    let f : FieldHere s at x = subst (λ (z : Sheet). FieldHere z at x) e h in
+    subst (λ (fs : List ℕ). Reached (book_in s) 41 all p fs left) f.fields r
 
--- One field, where the fields from it on are f ∷ fs, those of the whole structure are `all`, and byte p of all is byte
--- `left` from here on.
-module _ (b : List Text) (all here : List ℕ) (p left f : ℕ) (fs : List ℕ)
-    (same : get_or (texts b here ++ 41 ∷ []) left 0 ≡ get_or (texts b all ++ 41 ∷ []) p 0) (among : (m : ℕ) → In m here → In m all) (e : here ≡ f ∷ fs) where
-  split : get_or (text_of b f ++ (texts b fs ++ 41 ∷ [])) left 0 ≡ get_or (texts b all ++ 41 ∷ []) p 0
-  split = ap (λ (t : Text). get_or t left 0) (sym (append_assoc (text_of b f) (texts b fs) (41 ∷ [])) ∙ ap (λ (hs : List ℕ). texts b hs ++ 41 ∷ []) (sym e)) ∙ same
+-- a step by a row of the kind k
+pub leads_by : (s : Sheet) (r : TypeRow) (k : Kind) (p : ℕ) (o : Step) → r.kind ≡ k
+    → Leads (book_in s) (node_text (book_in s) (node_by (fields_in s.fields) k r.first r.second)) (parts_of (node_by (fields_in s.fields) k r.first r.second)) p o
+    → Leads (book_in s) (node_text (book_in s) (node_in s r)) (parts_of (node_in s r)) p o
+leads_by s r k p o e l = subst (λ (j : Kind). Leads (book_in s) (node_text (book_in s) (node_by (fields_in s.fields) j r.first r.second)) (parts_of (node_by (fields_in s.fields) j r.first r.second)) p o) (sym e) l
 
-  pub among_rest : (m : ℕ) → In m (f ∷ fs) → In m all
-  among_rest m i = among m (subst (λ (hs : List ℕ). In m hs) (sym e) i)
-
-  pub field_in : left < length (text_of b f) → Within b (texts b all ++ 41 ∷ []) all p f left
-  field_in l = record { part = among_rest f (inl refl); byte = sym (at_left (text_of b f) (texts b fs ++ 41 ∷ []) left l) ∙ split }
-
-  pub field_on : (size : ℕ) → size ≡ length (text_of b f) → size ≤ left → get_or (texts b fs ++ 41 ∷ []) (left - size) 0 ≡ get_or (texts b all ++ 41 ∷ []) p 0
-  field_on size long l = sym (at_right (text_of b f) (texts b fs ++ 41 ∷ []) size left (left - size) long l refl) ∙ split
-
--- The field row at a number.
-pub field_by : (s : Sheet) (at : ℕ) (o : Option FieldRow) → (at ≡ 0 → ⊥) → MatchOption o (s.fields.count ≤ at - 1) (λ x. Located s.fields (at - 1) x) → MatchOption o (fields_from s at ≡ []) (λ x. FieldHere s at x)
-field_by s at None h l = no_fields_are s at l
-field_by s at (Some x) h l = field_here s at x (omega arith) l
-
--- The container of a row, by its kind.
-pub node_by_is : (s : Sheet) (r : TypeRow) (k : ℕ) → r.kind ≡ k → node_in s r ≡ node_by (fields_in s.fields) k r.first r.second
-node_by_is s r k e = ap (λ (k : ℕ). node_by (fields_in s.fields) k r.first r.second) e
-
-pub node_other : (s : Sheet) (r : TypeRow) → (r.kind ≡ 1 → ⊥) → (r.kind ≡ 2 → ⊥) → (r.kind ≡ 3 → ⊥) → node_in s r ≡ maybe r.first
-node_other s r a b c = rw (ne_eqb r.kind 1 a, ne_eqb r.kind 2 b, ne_eqb r.kind 3 c)
-
-pub leads_as : (b : List Text) (x y : Node) (p : ℕ) (r : Step) → x ≡ y → Leads b (node_text b y) (parts_of y) p r → Leads b (node_text b x) (parts_of x) p r
-leads_as b x y p r e l = subst (λ (z : Node). Leads b (node_text b z) (parts_of z) p r) (sym e) l
+pub leads_other : (s : Sheet) (r : TypeRow) (k : Kind) (p : ℕ) (o : Step) → (k ≡ Array → ⊥) → (k ≡ Dict → ⊥) → (k ≡ Structure → ⊥)
+    → Leads (book_in s) (node_text (book_in s) (maybe r.first)) (r.first ∷ []) p o
+    → Leads (book_in s) (node_text (book_in s) (node_by (fields_in s.fields) k r.first r.second)) (parts_of (node_by (fields_in s.fields) k r.first r.second)) p o
+leads_other s r Array p o a b c l = absurd (a refl)
+leads_other s r Dict p o a b c l = absurd (b refl)
+leads_other s r Structure p o a b c l = absurd (c refl)
+leads_other s r k p o a b c l = l
 
 -- a step in what stands behind a byte
 pub leads_behind : (b : List Text) (c p : ℕ) (w : Text) (ms : List ℕ) (r : Step) → 0 < p → Leads b w ms (p - 1) r → Leads b (c ∷ w) ms p r
 leads_behind b c p w ms (Done x) l e = e ∙ sym (at_behind c p w l)
 leads_behind b c p w ms (Part m q) l h = record { part = h.part; byte = h.byte ∙ sym (at_behind c p w l) }
 
-pub leads_two : (b : List Text) (c d p : ℕ) (w : Text) (ms : List ℕ) (r : Step) → 2 ≤ p → Leads b w ms (p - 2) r → Leads b (c ∷ d ∷ w) ms p r
-leads_two b c d p w ms r l h =
+-- in a dictionary's key, value and closing brace
+pub leads_pair : (b : List Text) (p k v : ℕ) (r : Step) → 2 ≤ p → Leads b (texts b (k ∷ v ∷ []) ++ 125 ∷ []) (k ∷ v ∷ []) (p - 2) r → Leads b (node_text b (dict k v)) (k ∷ v ∷ []) p r
+leads_pair b p k v r l h =
     let e : p - 2 ≡ p - 1 - 1 = omega arith in
-    leads_behind b c p (d ∷ w) ms r (omega arith) (leads_behind b d (p - 1) w ms r (omega arith) (subst (λ (q : ℕ). Leads b w ms q r) e h))
+    let w : texts b (k ∷ v ∷ []) ++ 125 ∷ [] ≡ text_of b k ++ (text_of b v ++ 125 ∷ []) = simp append_assoc in
+    leads_behind b 97 p (123 ∷ (text_of b k ++ (text_of b v ++ 125 ∷ []))) (k ∷ v ∷ []) r (omega arith)
+    (leads_behind b 123 (p - 1) (text_of b k ++ (text_of b v ++ 125 ∷ [])) (k ∷ v ∷ []) r (omega arith) (subst (λ (t : Text). Leads b t (k ∷ v ∷ []) (p - 1 - 1) r) w (subst (λ (q : ℕ). Leads b (texts b (k ∷ v ∷ []) ++ 125 ∷ []) (k ∷ v ∷ []) q r) e h)))
 
 -- What a step by the row of n says of n.
-module _ (s s' : Sheet) (n p : ℕ) (x : TypeRow) (e : s' ≡ s) (h : 15 ≤ n) (l : Located s.types (n - 15) x) where
-  pub row_done : (r : ℕ) → r ≡ get_or (node_text (book_in s') (node_in s' x)) p 0 → r ≡ get_or (text_of (book_in s) n) p 0
-  row_done r d = d ∙ ap (λ (z : Sheet). get_or (node_text (book_in z) (node_in z x)) p 0) e ∙ ap (λ (w : Text). get_or w p 0) (sym (row_text s n h x l))
+module _ {s s' : Sheet} {n : ℕ} {x : TypeRow} (p : ℕ) (e : s' ≡ s) (r : Row s n x) where
+  pub row_done : {o : Option ℕ} → o ≡ slice_get (node_text (book_in s') (node_in s' x)) p → o ≡ slice_get (text_of (book_in s) n) p
+  row_done d = d ∙ ap (λ (z : Sheet). slice_get (node_text (book_in z) (node_in z x)) p) e ∙ ap (λ (w : Text). slice_get w p) (sym (row_text s r))
 
-  module _ (m q : ℕ) (i : Within (book_in s') (node_text (book_in s') (node_in s' x)) (parts_of (node_in s' x)) p m q) where
+  module _ {m q : ℕ} (i : Within (book_in s') (node_text (book_in s') (node_in s' x)) (parts_of (node_in s' x)) p m q) where
     pub row_below : m < n
-    row_below = row_part s n h x l m (subst (λ (z : Sheet). In m (parts_of (node_in z x))) e i.part)
+    row_below = row_part s r m (subst (λ (z : Sheet). In m (parts_of (node_in z x))) e i.part)
 
-    pub row_within : get_or (text_of (book_in s') m) q 0 ≡ get_or (text_of (book_in s) n) p 0
-    row_within = row_done (get_or (text_of (book_in s') m) q 0) i.byte
+    pub row_within : slice_get (text_of (book_in s') m) q ≡ slice_get (text_of (book_in s) n) p
+    row_within = row_done i.byte

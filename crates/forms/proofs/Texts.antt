@@ -1,9 +1,13 @@
 -- The texts of the numbers of a sheet, by its rows.
-use Rattle.std.proofs.Common.{◌≡◌, ℕ, zero, suc, ◌+◌, ◌-◌, ◌<◌, ◌≤◌, List, [], ◌∷◌, ◌++◌, length, get_or, sym, refl, ap, ◌∙◌, subst, ap₂, inl, inr, append_assoc, arith}
-use Rattle.std.proofs.lemmas.List.{get_or-take, get_or-map, get_or_past, get_or_append_left, length-take-le}
+use Rattle.std.proofs.Common.{◌≡◌, ℕ, zero, suc, ◌+◌, ◌-◌, ◌<◌, ◌≤◌, List, [], ◌∷◌, ◌++◌, map, length, get_or, slice_get, Option as Optional, Some, None, MatchOption, sym, refl, ap, ◌∙◌, subst, ap₂, inl, inr, append_assoc, arith}
+use Rattle.std.specs.declared.ops.Range.{Range}
+use mathlib.Core.Option.{Option}
+use Rattle.std.proofs.lemmas.List.{get_or-take, get_or_past, length-take-le}
 use Rattle.grammar.specs.declared.figures.Figures.{Figures}
 use Rattle.grammar.specs.Lists.{In}
 use Rattle.grammar.specs.Shape.{Text, basic_codes, Shape, printed, printed_all}
+use Rattle.grammar.specs.Figures.{figures_by, text_figures}
+use Rattle.grammar.proofs.ReadBack.{reading_printed, reading_empty}
 use Rattle.rows.specs.Found.{Located}
 use Rattle.book.specs.Plain.{single, known, text_of, texts}
 use Rattle.book.specs.Nodes.{Node, array, maybe, dict, structure, figures_at, shapes_from, shape_at, shapes_at, node_shape, Part, Parts, Known}
@@ -24,23 +28,28 @@ use Rattle.layout.proofs.Ask.{row_figures_are}
 use Rattle.layout.proofs.Laying.{tails_long, tails_at_is}
 use Rattle.layout.proofs.Step.{node_at}
 use Rattle.sheet.proofs.Texts.{good_book, count, stands}
-use Rattle.forms.specs.declared.spans.Span.{Span}
 use Rattle.sheet.specs.Seen.{book_in}
 use Rattle.forms.specs.Spans.{bytes_in}
 use Rattle.forms.specs.Steps.{node_text, parts_of, node_in, fields_from, FieldHere}
 
--- Unit and the basic codes have the same texts in every book.
-pub first_text : (b : List Text) (n : ℕ) → n < 15 → text_of b n ≡ text_of [] n
-first_text b n l = get_or_append_left (known []) b [] n l
+-- Unit has the empty text, and a basic code the one byte that it is.
+single_byte : (cs : List ℕ) (i : ℕ) → slice_get cs i ≡ slice_get (get_or (map single cs ++ []) i []) 0
+single_byte [] i = refl
+single_byte (c ∷ cs) zero = refl
+single_byte (c ∷ cs) (suc i) = single_byte cs i
 
--- a basic code is its own text
-pub code_text : (n : ℕ) → (n ≡ 0 → ⊥) → n < 15 → text_of [] n ≡ get_or basic_codes (n - 1) 0 ∷ []
-code_text zero h l = absurd (h refl)
-code_text (suc n) h l = let z : n ≡ suc n - 1 = omega arith in get_or-map single basic_codes n 0 [] (omega arith) ∙ ap (λ (k : ℕ). get_or basic_codes k 0 ∷ []) z
+pub code_byte : (n i p : ℕ) → p ≡ 0 → (1 ≤ n) × (i ≡ n - 1) → slice_get basic_codes i ≡ slice_get (text_of [] n) p
+code_byte zero i p e h = absurd (omega (arith, h.0))
+code_byte (suc n) i p e h = let z : i ≡ n = omega (arith, h.1) in ap (slice_get basic_codes) z ∙ single_byte basic_codes n ∙ ap (slice_get (text_of [] (suc n))) (sym e)
+
+single_long : (cs : List ℕ) (b : List Text) (i : ℕ) → i < length cs → length (get_or (map single cs ++ b) i []) ≡ 1
+single_long [] b i l = absurd (omega arith)
+single_long (c ∷ cs) b zero l = refl
+single_long (c ∷ cs) b (suc i) l = single_long cs b i (omega arith)
 
 pub first_short : (b : List Text) (n : ℕ) → n < 15 → length (text_of b n) ≤ 1
 first_short b zero l = omega arith
-first_short b (suc n) l = omega (arith, ap length (first_text b (suc n) l ∙ code_text (suc n) (λ z. omega arith) l))
+first_short b (suc n) l = omega (arith, single_long basic_codes b n (omega arith))
 
 -- a number that is not known has the empty text
 pub no_text : (b : List Text) (n : ℕ) → 15 + length b ≤ n → text_of b n ≡ []
@@ -88,17 +97,38 @@ module _ (s : Sheet) where
       ap (λ (t : Text). 40 ∷ t) (sym (append_assoc (printed (shape_at ss n)) (printed_all (shapes_at ss fs)) (41 ∷ [])))
       ∙ ap (λ (t : Text). 40 ∷ (t ++ 41 ∷ [])) (sym (parts_text (n ∷ fs) k))
 
+  -- the length among the figures of a known text is its own
+  pub text_long : (n : ℕ) → n < 15 + length (book_in s) → (text_figures (text_of (book_in s) n)).length ≡ length (text_of (book_in s) n)
+  unfolding text_figures
+  text_long zero l = ap (λ (o : Option Shape). (figures_by o).length) reading_empty
+  text_long (suc n) l =
+      let e : text_of (book_in s) (suc n) ≡ printed (shape_at ss (suc n)) = part_text (suc n) (omega (arith, shapes_long, book_long)) in
+      subst (λ (w : Text). (text_figures w).length ≡ length w) (sym e) (ap (λ (o : Option Shape). (figures_by o).length) (reading_printed (shape_at ss (suc n))))
+
   -- The number n, whose row is x.
-  module _ (n : ℕ) (h : 15 ≤ n) (x : TypeRow) (l : Located s.types (n - 15) x) where
+  pub record Row (n : ℕ) (x : TypeRow) : Type 0 where
+    pub container : 15 ≤ n
+    pub located : Located s.types (n - 15) x
+
+  pub row_at : {n i : ℕ} {x : TypeRow} → n ≡ 15 + i → Located s.types i x → Row n x
+  row_at {n} {i} {x} h l = let e : i ≡ n - 15 = omega arith in record { container = omega arith; located = subst (λ (k : ℕ). Located s.types k x) e l }
+
+  pub no_row : {n i : ℕ} → n ≡ 15 + i → s.types.count ≤ i → 15 + length (book_in s) ≤ n
+  no_row {n} {i} h l = omega (arith, book_long)
+
+  module _ {n : ℕ} {x : TypeRow} (r : Row n x) where
     low : n - 15 < s.types.count
-    low = omega (arith, l.below)
+    low = omega (arith, r.located.below)
+
+    pub row_in : n < 15 + length (book_in s)
+    row_in = omega (arith, r.container, low, book_long)
 
     node_is : get_or ns (n - 15) (node_in s blank_type) ≡ node_in s x
     node_is =
         let L : List TypeRow = types_in s.types in
         let e : length L ≡ s.types.count = length-take-le s.types.count s.types.rows.now (omega (arith, s.types_within, s.types_usable)) in
         node_at L (fields_in s.fields) (n - 15) (node_in s blank_type) (omega (arith, low))
-        ∙ ap (node_in s) (get_or-take s.types.count s.types.rows.now (n - 15) blank_type low ∙ sym (l.here blank_type))
+        ∙ ap (node_in s) (get_or-take s.types.count s.types.rows.now (n - 15) blank_type low ∙ sym (r.located.here blank_type))
 
     pub row_known : Known (n - 15) (node_in s x)
     row_known =
@@ -107,20 +137,20 @@ module _ (s : Sheet) where
         (subst (λ (k : ℕ). Known k (get_or ns (n - 15) (node_in s blank_type))) z (chain_at ns 0 (node_in s blank_type) (good_book s).chain (n - 15) (omega (arith, low, count s))))
 
     pub row_shape : text_of (book_in s) n ≡ printed (node_shape ss (node_in s x))
-    row_shape = text_at ns (good_book s) n (node_in s blank_type) h (omega (arith, low, count s)) ∙ ap (λ (y : Node). printed (node_shape ss y)) node_is
+    row_shape = text_at ns (good_book s) n (node_in s blank_type) r.container (omega (arith, low, count s)) ∙ ap (λ (y : Node). printed (node_shape ss y)) node_is
 
     pub row_text : text_of (book_in s) n ≡ node_text (book_in s) (node_in s x)
     row_text = row_shape ∙ node_text_is (node_in s x) (known_more (n - 15) (length ss) (node_in s x) (omega (arith, low, shapes_long)) row_known)
 
     pub row_part : (m : ℕ) → In m (parts_of (node_in s x)) → m < n
-    row_part m i = omega (arith, below (n - 15) (node_in s x) m row_known i)
+    row_part m i = omega (arith, r.container, below (n - 15) (node_in s x) m row_known i)
 
     pub row_long : x.figures.length ≡ length (text_of (book_in s) n)
     row_long =
-        let p : Part (length ss) n = omega (arith, low, shapes_long) in
+        let p : Part (length ss) n = omega (arith, r.container, low, shapes_long) in
         ap (λ (f : Figures). f.length)
-        (ap figures_in (l.here blank_type)
-        ∙ row_figures_are s.types.rows.now s.types.count s.fields.rows.now s.fields.count n (omega (arith, s.types_within, s.types_usable)) (out s.good).sound h low
+        (ap figures_in (r.located.here blank_type)
+        ∙ row_figures_are s.types.rows.now s.types.count s.fields.rows.now s.fields.count n (omega (arith, s.types_within, s.types_usable)) (out s.good).sound r.container low
         ∙ ap (λ (fs : List Figures). figures_at fs n) (good_sound ns (good_book s)).figures
         ∙ shape_figures ss n p)
         ∙ ap length (sym (part_text n p))
@@ -132,29 +162,26 @@ module _ (s : Sheet) where
   fields_long : length F ≡ s.fields.count
   fields_long = length-take-le s.fields.count s.fields.rows.now (omega (arith, s.fields_within, s.fields_usable))
 
-  pub no_fields_are : (at : ℕ) → s.fields.count ≤ at - 1 → fields_from s at ≡ []
-  no_fields_are zero l = refl
-  no_fields_are (suc i) l = get_or_past (row_tails F) i [] (omega (arith, l, tails_long F, fields_long))
-
-  pub field_here : (at : ℕ) (x : FieldRow) → 0 < at → Located s.fields (at - 1) x → FieldHere s at x
-  field_here zero x h l = absurd (omega arith)
-  field_here (suc i) x h l =
+  pub field_by : (at i : ℕ) (o : Optional FieldRow) → (1 ≤ at) × (i ≡ at - 1) → MatchOption o (s.fields.count ≤ i) (λ x. Located s.fields i x) → MatchOption o (fields_from s at ≡ []) (λ x. FieldHere s at x)
+  field_by zero i o h l = absurd (omega (arith, h.0))
+  field_by (suc k) i None h l = get_or_past (row_tails F) k [] (omega (arith, l, h.1, tails_long F, fields_long))
+  field_by (suc k) i (Some x) h l =
       let g = (out s.good).sound.good.fields in
-      let z : suc i - 1 ≡ i = omega arith in
-      let b : i < length F = omega (arith, l.below, fields_long) in
-      let e : get_or F i blank_field ≡ x = get_or-take s.fields.count s.fields.rows.now i blank_field (omega (arith, l.below)) ∙ ap (λ (k : ℕ). get_or s.fields.rows.now k blank_field) (sym z) ∙ sym (l.here blank_field) in
+      let z : i ≡ k = omega (arith, h.1) in
+      let b : k < length F = omega (arith, l.below, fields_long) in
+      let e : get_or F k blank_field ≡ x = get_or-take s.fields.count s.fields.rows.now k blank_field (omega (arith, l.below)) ∙ ap (λ (j : ℕ). get_or s.fields.rows.now j blank_field) (sym z) ∙ sym (l.here blank_field) in
       record {
-        fields = tails_at_is F g i b ∙ ap (λ (y : FieldRow). y.field ∷ fields_from s y.next) e;
-        next = omega (arith, g.next i b, ap (λ (y : FieldRow). y.next) e);
+        fields = tails_at_is F g k b ∙ ap (λ (y : FieldRow). y.field ∷ fields_from s y.next) e;
+        next = omega (arith, g.next k b, ap (λ (y : FieldRow). y.next) e);
       }
 
 -- What is said of a sheet holds of an equal one.
+pub long_as : {s s' : Sheet} → s' ≡ s → (n : ℕ) → length (text_of (book_in s') n) ≡ length (text_of (book_in s) n)
+long_as e n = ap (λ (z : Sheet). length (text_of (book_in z) n)) e
+
 module _ (s s' : Sheet) (e : s' ≡ s) (n : ℕ) where
-  pub length_as : (k : ℕ) → k ≡ length (text_of (book_in s') n) → k ≡ length (text_of (book_in s) n)
-  length_as k h = h ∙ ap (λ (z : Sheet). length (text_of (book_in z) n)) e
+  pub byte_as : (p : ℕ) (b : Optional ℕ) → b ≡ slice_get (text_of (book_in s') n) p → b ≡ slice_get (text_of (book_in s) n) p
+  byte_as p b h = h ∙ ap (λ (z : Sheet). slice_get (text_of (book_in z) n) p) e
 
-  pub byte_as : (p b : ℕ) → b ≡ get_or (text_of (book_in s') n) p 0 → b ≡ get_or (text_of (book_in s) n) p 0
-  byte_as p b h = h ∙ ap (λ (z : Sheet). get_or (text_of (book_in z) n) p 0) e
-
-  pub bytes_as : (x : Span) (w : Text) → bytes_in x (text_of (book_in s) n) ≡ w → bytes_in x (text_of (book_in s') n) ≡ w
+  pub bytes_as : (x : Range ℕ) (w : Text) → bytes_in x (text_of (book_in s) n) ≡ w → bytes_in x (text_of (book_in s') n) ≡ w
   bytes_as x w h = ap (λ (z : Sheet). bytes_in x (text_of (book_in z) n)) e ∙ h

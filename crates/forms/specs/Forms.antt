@@ -1,7 +1,6 @@
 -- The forms in which a signature is written, and their bytes.
-use Rattle.std.specs.Prelude.{◌≡◌, ℕ, Bool, true, false, List, [], ◌∷◌, ◌++◌, length, Option as Optional}
+use Rattle.std.specs.Prelude.{◌≡◌, ℕ, ◌+◌, Bool, true, false, cond, List, [], ◌∷◌, ◌++◌, length, Some, None, nat_lt, slice_get, Option as Optional}
 use Rattle.std.proofs.Math.Option.{Option, none, some}
-use Rattle.std.specs.List.{slice_get}
 use Rattle.grammar.specs.Shape.{Text, Shape, basic, array, maybe, dict, structure, more, printed_all}
 use Rattle.grammar.specs.Read.{reading}
 use Rattle.grammar.specs.Refusals.{Outcome, accepted}
@@ -24,6 +23,10 @@ bare_text w = bare_by (reading w) w
 abbrev pub Paired : Text → Bool → Type 0
 Paired w true = w ≡ 40 ∷ (bare_text w ++ 41 ∷ [])
 Paired w false = bare_text w ≡ w
+
+-- how long the printed form of n is; none where it is no number of the book
+abbrev pub length_in : List Text → ℕ → Optional ℕ
+length_in b n = cond (nat_lt n (15 + length b)) (Some (length (text_of b n))) None
 
 -- the byte at place p of the printed form of n; none past its end
 unfoldable pub byte_of : List Text → ℕ → ℕ → Outcome (Optional ℕ)

@@ -1,5 +1,5 @@
 -- The way from a container to the part in which a byte of its printed form stands.
-use Rattle.std.specs.Prelude.{◌≡◌, ℕ, ◌<◌, List, [], ◌∷◌, ◌++◌, slice_index, slice_index_or}
+use Rattle.std.specs.Prelude.{◌≡◌, ℕ, ◌<◌, List, [], ◌∷◌, ◌++◌, slice_get}
 use Rattle.grammar.specs.Lists.{In}
 use Rattle.grammar.specs.Shape.{Text}
 use Rattle.book.specs.Plain.{text_of, texts}
@@ -40,9 +40,9 @@ pub record FieldHere (s : Sheet) (at : ℕ) (x : FieldRow) : Type 0 where
 -- byte p of the text w is byte q of the part m
 pub record Within (b : List Text) (w : Text) (parts : List ℕ) (p m q : ℕ) : Type 0 where
   pub part : In m parts
-  pub byte : slice_index_or (text_of b m) q 0 ≡ slice_index w p
+  pub byte : slice_get (text_of b m) q ≡ slice_get w p
 
 -- a step tells byte p of the text w, or leads to it in one of the parts
 abbrev pub Leads : List Text → Text → List ℕ → ℕ → Step → Type 0
-Leads b w parts p (Done c) = c ≡ slice_index w p
+Leads b w parts p (Done c) = c ≡ slice_get w p
 Leads b w parts p (Part m q) = Within b w parts p m q

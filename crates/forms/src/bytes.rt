@@ -1,96 +1,98 @@
 // The byte at a place of a printed form.
-ghost use Rattle.std.specs.Prelude.{◌≡◌, ◌+◌, ◌<◌, List, [], ◌∷◌, ◌++◌, length, MatchOption, nat_lt, slice_index};
+ghost use Rattle.std.specs.Prelude.{◌≡◌, ◌+◌, ◌<◌, List, [], ◌∷◌, ◌++◌, length, MatchOption, nat_lt, slice_get};
 ghost use Rattle.grammar.specs.Refusals.{outcome};
 ghost use Rattle.grammar.specs.Shape.{Text};
 ghost use Rattle.book.specs.Plain.{text_of, texts};
-ghost use Rattle.forms.specs.Forms.{byte_of};
+ghost use Rattle.forms.specs.Forms.{byte_of, length_in};
 ghost use Rattle.sheet.specs.Seen.{book_in};
 ghost use Rattle.forms.specs.Steps.{node_text, parts_of, node_in, fields_from, Leads, FieldHere};
 
+use grammar::codes::CODES;
 use grammar::error::Refusal;
-use sheet::row::{ARRAY, DICT, FieldRow, STRUCTURE, TypeRow};
+use sheet::row::{FieldRow, Kind, TypeRow, place_of};
 use sheet::sheet::Sheet;
 
-// The byte itself, 0 past the end, or a part of the signature and the place in it.
+// The byte itself, none past the end, or a part of the signature and the place in it.
 enum Step {
-    Done(u8),
+    Done(Option<u8>),
     Part(u16, usize),
 }
 
 // The byte of Unit, which has none, or of a basic code.
-fn first_byte(n: u16, p: usize) -> u8
-    requires { n < 15 }
-    ensures { result ≡ slice_index (text_of [] n) p }
+fn first_byte(n: u16, p: usize) -> Option<u8>
+    ensures { result ≡ slice_get (text_of [] n) p }
 {
-    if n == 0 || p > 0 {
-        0
-    } else {
-        b"ybnqiuxtdsgovh"[n as usize - 1]
+    if p > 0 {
+        return None;
     }
+    let i = n.checked_sub(1)?;
+    CODES.get(i as usize).copied()
 }
 
 // Whether `n` is a number of the sheet.
+#[tactic(auto, using(crate::proofs::Known::is_ok_known))]
 pub fn is_known(sheet: &mut Sheet, n: u16) -> bool
     ensures same { sheet.new ≡ sheet.old }
     ensures known { result ≡ nat_lt n (15 + length (book_in sheet.old)) }
 {
-    (n as usize) < 15 + sheet.counts().0
+    sheet.string_len(n).is_ok()
 }
 
-// How many bytes the printed form of `n` has; 0 where it is no number of the sheet.
-pub fn length_of(sheet: &mut Sheet, n: u16) -> u16
+// How many bytes the printed form of `n` has, none where it is no number of the sheet. The row is read here: with
+// string_len in it, `byte` takes more than 100 bytes of stack for each part that it goes down.
+pub fn length_of(sheet: &mut Sheet, n: u16) -> Option<u16>
     ensures same { sheet.new ≡ sheet.old }
-    ensures long { result ≡ length (text_of (book_in sheet.old) n) }
+    ensures long { result ≡ length_in (book_in sheet.old) n }
 {
-    if n == 0 {
-        return 0;
-    }
-    if n < 15 {
-        return 1;
-    }
-    match sheet.type_row(n as usize - 15) {
-        Some(row) => row.figures.length,
-        None => 0,
-    }
+    let Some(i) = place_of(n) else {
+        return Some(n.min(1));
+    };
+    let row = sheet.type_row(i)?;
+    Some(row.figures.length)
+}
+
+// How far place `p` is past the printed form of a part; none where it stands in that form.
+#[tactic(auto, using(crate::proofs::Known::length_or_none))]
+fn past(sheet: &mut Sheet, part: u16, p: usize) -> Option<usize>
+    ensures same { sheet.new ≡ sheet.old }
+    ensures past { MatchOption result (p < length (text_of (book_in sheet.old) part)) (λ rest. length (text_of (book_in sheet.old) part) + rest ≡ p) }
+{
+    let length = length_of(sheet, part).unwrap_or(0);
+    p.checked_sub(length as usize)
 }
 
 // The field row numbered `at`, from 1; none at the end of a list of fields.
+#[tactic(auto, using(crate::proofs::Texts::field_by))]
 fn field_at(sheet: &mut Sheet, at: u16) -> Option<FieldRow>
     ensures same { sheet.new ≡ sheet.old }
     ensures field { MatchOption result (fields_from sheet.old at ≡ []) (λ x. FieldHere sheet.old at x) }
 {
-    if at == 0 {
-        None
-    } else {
-        sheet.field_row(at as usize - 1)
-    }
+    let i = at.checked_sub(1)?;
+    sheet.field_row(i as usize)
 }
 
 // A byte of what is written as a letter and a child.
 fn child_step(letter: u8, child: u16, p: usize) -> Step
     ensures { (b : List Text) → Leads b (letter ∷ text_of b child) (child ∷ []) p result }
 {
-    if p == 0 {
-        Step::Done(letter)
-    } else {
-        Step::Part(child, p - 1)
+    match p.checked_sub(1) {
+        Some(place) => Step::Part(child, place),
+        None => Step::Done(Some(letter)),
     }
 }
 
 // A byte of a dictionary's key, value and closing brace.
 fn pair_step(sheet: &mut Sheet, key: u16, value: u16, p: usize) -> Step
     ensures same { sheet.new ≡ sheet.old }
-    ensures leads { Leads (book_in sheet.old) (text_of (book_in sheet.old) key ++ (text_of (book_in sheet.old) value ++ 125 ∷ [])) (key ∷ value ∷ []) p result }
+    ensures leads { Leads (book_in sheet.old) (texts (book_in sheet.old) (key ∷ value ∷ []) ++ 125 ∷ []) (key ∷ value ∷ []) p result }
 {
-    let first = length_of(sheet, key) as usize;
-    if p < first {
+    let Some(behind_key) = past(sheet, key, p) else {
         return Step::Part(key, p);
-    }
-    let second = length_of(sheet, value) as usize;
-    if p - first < second {
-        return Step::Part(value, p - first);
-    }
-    Step::Done(if p - first == second { b'}' } else { 0 })
+    };
+    let Some(behind_value) = past(sheet, value, behind_key) else {
+        return Step::Part(value, behind_key);
+    };
+    Step::Done((behind_value == 0).then_some(b'}'))
 }
 
 // A byte of a structure's fields, from the field row `first` on, and closing parenthesis.
@@ -101,14 +103,13 @@ fn fields_step(sheet: &mut Sheet, first: u16, p: usize) -> Step
     let mut at = first;
     let mut left = p;
     while let Some(row) = field_at(sheet, at) {
-        let length = length_of(sheet, row.field) as usize;
-        if left < length {
+        let Some(behind) = past(sheet, row.field, left) else {
             return Step::Part(row.field, left);
-        }
-        left -= length;
+        };
+        left = behind;
         at = row.next;
     }
-    Step::Done(if left == 0 { b')' } else { 0 })
+    Step::Done((left == 0).then_some(b')'))
 }
 
 // A byte of the printed form of a container, by its row.
@@ -116,35 +117,26 @@ fn row_step(sheet: &mut Sheet, row: TypeRow, p: usize) -> Step
     ensures same { sheet.new ≡ sheet.old }
     ensures leads { Leads (book_in sheet.old) (node_text (book_in sheet.old) (node_in sheet.old row)) (parts_of (node_in sheet.old row)) p result }
 {
-    match row.kind {
-        ARRAY => child_step(b'a', row.first, p),
-        DICT => match p {
-            0 => Step::Done(b'a'),
-            1 => Step::Done(b'{'),
-            _ => pair_step(sheet, row.first, row.second, p - 2),
-        },
-        STRUCTURE => {
-            if p == 0 {
-                return Step::Done(b'(');
-            }
-            fields_step(sheet, row.first, p - 1)
-        }
+    match (row.kind, p) {
+        (Kind::Array, _) => child_step(b'a', row.first, p),
+        (Kind::Dict, 0) => Step::Done(Some(b'a')),
+        (Kind::Dict, 1) => Step::Done(Some(b'{')),
+        (Kind::Dict, _) => pair_step(sheet, row.first, row.second, p - 2),
+        (Kind::Structure, 0) => Step::Done(Some(b'(')),
+        (Kind::Structure, _) => fields_step(sheet, row.first, p - 1),
         _ => child_step(b'm', row.first, p),
     }
 }
 
-// The byte at place `p` of the printed form of `n`, or 0 past its end. A plain number is answered, and the inner call
-// is the last step, so that the compiler makes a loop of it.
-pub fn byte(sheet: &mut Sheet, n: u16, p: usize) -> u8
+// The byte at place `p` of the printed form of `n`, none past its end. The inner call is the last step.
+pub fn byte(sheet: &mut Sheet, n: u16, p: usize) -> Option<u8>
     ensures same { sheet.new ≡ sheet.old }
-    ensures byte { result ≡ slice_index (text_of (book_in sheet.old) n) p }
+    ensures byte { result ≡ slice_get (text_of (book_in sheet.old) n) p }
 {
-    if n < 15 {
+    let Some(i) = place_of(n) else {
         return first_byte(n, p);
-    }
-    let Some(row) = sheet.type_row(n as usize - 15) else {
-        return 0;
     };
+    let row = sheet.type_row(i)?;
     match row_step(sheet, row, p) {
         Step::Done(found) => found,
         Step::Part(part, place) => byte(sheet, part, place),
@@ -152,15 +144,14 @@ pub fn byte(sheet: &mut Sheet, n: u16, p: usize) -> u8
 }
 
 // The byte at place `p` of the printed form of `n`, none past its end.
+#[tactic(auto, unfolding(crate::specs::Forms::byte_of))]
 pub fn byte_at(sheet: &mut Sheet, n: u16, p: usize) -> Result<Option<u8>, Refusal>
     ensures same { sheet.new ≡ sheet.old }
     ensures answer { outcome result ≡ byte_of (book_in sheet.old) n p }
 {
-    if !is_known(sheet, n) {
-        return Err(Refusal::Unknown(0));
+    if is_known(sheet, n) {
+        Ok(byte(sheet, n, p))
+    } else {
+        Err(Refusal::Unknown(0))
     }
-    if p >= length_of(sheet, n) as usize {
-        return Ok(None);
-    }
-    Ok(Some(byte(sheet, n, p)))
 }

@@ -8,3 +8,4 @@ pub mod Parts
 pub mod Figures
 pub mod Refusals
 pub mod Laws
+pub mod Shown

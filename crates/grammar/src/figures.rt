@@ -1,4 +1,8 @@
 // What is known of a signature besides its parts.
+ghost use Rattle.std.specs.Prelude.{Some as Seen};
+ghost use Rattle.grammar.specs.Shown.{figures_shown};
+
+use std::fmt;
 
 #[derive(Clone, Copy, Drop, PartialEq, Eq, Debug)]
 pub struct Figures {
@@ -27,4 +31,25 @@ impl Figures {
         fixed: false,
         maybe: false,
     };
+}
+
+// The figures are shown in a row, each behind its name.
+impl fmt::Display for Figures {
+    ghost output = { λ x. Seen (figures_shown x) };
+
+    fn fmt<W: fmt::Write>(&self, f: &mut fmt::Formatter<W>) -> fmt::Result {
+        let Figures {
+            length,
+            structures,
+            arrays,
+            dbus,
+            gvariant,
+            fixed,
+            maybe,
+        } = *self;
+        write!(
+            f,
+            "length {length}, alignment {dbus} {gvariant}, fixed {fixed}, maybe {maybe}, depths {structures} {arrays}"
+        )
+    }
 }

@@ -19,6 +19,7 @@ pub struct Account {
 }
 
 // All figures of `n`, asked one after another; an alignment that there is not is written 0.
+#[tactic(auto, unfolding(book::specs::Questions::figure_of))]
 pub fn figures_of(sheet: &mut Sheet, n: u16) -> Result<Figures, Refusal>
     ensures same { sheet.new ≡ sheet.old }
     ensures answer { outcome result ≡ all_figures (book_in sheet.old) n }
@@ -41,9 +42,10 @@ pub fn figures_of(sheet: &mut Sheet, n: u16) -> Result<Figures, Refusal>
 }
 
 // Offers the printed form of `n` to the writer, and asks for all its figures.
+#[tactic(auto, unfolding(book::specs::Questions::figure_of, crate::specs::Account::account_of, printing::specs::Forms::written_of))]
 pub fn account_of<W: Writer>(sheet: &mut Sheet, n: u16, w: &mut W) -> Result<Account, Refusal>
     ensures same { sheet.new ≡ sheet.old }
-    ensures accounted { Accounted (book_in sheet.old) n (outcome result) (W.Writer.rule w.old) (W.Writer.taken w.old) (W.Writer.rest w.old) (W.Writer.site w.old) (W.Writer.rule w.new) (W.Writer.taken w.new) (W.Writer.rest w.new) (W.Writer.site w.new) }
+    ensures accounted { Accounted (book_in sheet.old) n (outcome result) (W.state w.old) (W.state w.new) }
     ensures still { OnRefusal (outcome result) (w.new ≡ w.old) }
 {
     let figures = figures_of(sheet, n)?;

@@ -33,10 +33,11 @@ pub fn make(sheet: &mut Sheet, call: &Call) -> Result<u16, Refusal>
 
 // Makes the calls one after another, and keeps the answers of the first, as far as there are places.
 pub fn make_all(sheet: &mut Sheet, calls: &[Call], answers: &mut [Result<u16, Refusal>])
-    ensures { Ran (calls_of calls.now) sheet.old.types sheet.old.fields sheet.new.types sheet.new.fields answers.old answers.new }
+    ensures { Ran (calls_of calls.now) sheet.old sheet.new answers.old answers.new }
 {
     for (i, call) in calls.iter().enumerate() {
         let answer = make(sheet, call);
+        // By index, since nothing is said of what a slice holds after `get_mut`.
         if i < answers.len() {
             answers[i] = answer;
         }

@@ -13,6 +13,14 @@ use sheet::row::{FieldRow, TypeRow};
 use sheet::sheet::Sheet;
 use writers::writer::Writer;
 
+// The sheet after the calls, and the accounts of both numbers.
+#[derive(Drop)]
+pub struct History<'a> {
+    pub sheet: Sheet<'a>,
+    pub first: Result<Account, Refusal>,
+    pub second: Result<Account, Refusal>,
+}
+
 // Opens a sheet on the lent rows, makes the calls on it, each on what those before it left, and prints `m` and `n` into the
 // writers, with the account of both. The answers of the calls are kept as far as there are places for them.
 pub fn replay<'a, V: Writer, W: Writer>(
@@ -24,18 +32,21 @@ pub fn replay<'a, V: Writer, W: Writer>(
     v: &mut V,
     n: u16,
     w: &mut W,
-    accounts: &mut (Result<Account, Refusal>, Result<Account, Refusal>),
-) -> Sheet<'a>
+) -> History<'a>
     ensures answers { Recorded (answers_of (length types.old) (length fields.old) (calls_of calls.now)) answers.old answers.new }
-    ensures filed { Filed (length types.old) (length fields.old) (calls_of calls.now) result.types result.fields }
-    ensures first { Accounted (book_after (length types.old) (length fields.old) (calls_of calls.now)) m (outcome accounts.new.0) (V.Writer.rule v.old) (V.Writer.taken v.old) (V.Writer.rest v.old) (V.Writer.site v.old) (V.Writer.rule v.new) (V.Writer.taken v.new) (V.Writer.rest v.new) (V.Writer.site v.new) }
-    ensures second { Accounted (book_after (length types.old) (length fields.old) (calls_of calls.now)) n (outcome accounts.new.1) (W.Writer.rule w.old) (W.Writer.taken w.old) (W.Writer.rest w.old) (W.Writer.site w.old) (W.Writer.rule w.new) (W.Writer.taken w.new) (W.Writer.rest w.new) (W.Writer.site w.new) }
-    ensures written { Written (book_after (length types.old) (length fields.old) (calls_of calls.now)) m n (V.Writer.rule v.old) (V.Writer.taken v.old) (V.Writer.taken v.new) (W.Writer.rule w.old) (W.Writer.taken w.old) (W.Writer.taken w.new) }
-    ensures still { (OnRefusal (outcome accounts.new.0) (v.new ≡ v.old)) × (OnRefusal (outcome accounts.new.1) (w.new ≡ w.old)) }
+    ensures filed { Filed (length types.old) (length fields.old) (calls_of calls.now) result.sheet }
+    ensures first { Accounted (book_after (length types.old) (length fields.old) (calls_of calls.now)) m (outcome result.first) (V.state v.old) (V.state v.new) }
+    ensures second { Accounted (book_after (length types.old) (length fields.old) (calls_of calls.now)) n (outcome result.second) (W.state w.old) (W.state w.new) }
+    ensures written { Written (book_after (length types.old) (length fields.old) (calls_of calls.now)) m n (V.state v.old) (V.state v.new) (W.state w.old) (W.state w.new) }
+    ensures still { (OnRefusal (outcome result.first) (v.new ≡ v.old)) × (OnRefusal (outcome result.second) (w.new ≡ w.old)) }
 {
     let mut sheet = Sheet::open(types, fields);
     make_all(&mut sheet, calls, answers);
-    accounts.0 = account_of(&mut sheet, m, v);
-    accounts.1 = account_of(&mut sheet, n, w);
-    sheet
+    let first = account_of(&mut sheet, m, v);
+    let second = account_of(&mut sheet, n, w);
+    History {
+        sheet,
+        first,
+        second,
+    }
 }

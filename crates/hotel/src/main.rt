@@ -2,7 +2,7 @@
 // account is printed.
 #![tactic(auto)]
 
-use answers::{Answer, Listed};
+use answers::Answer;
 use grammar::error::Refusal;
 use history::account::Account;
 use history::calls::Call;
@@ -82,7 +82,7 @@ impl fmt::Display for Entry {
     fn fmt<W: fmt::Write>(&self, f: &mut fmt::Formatter<W>) -> fmt::Result {
         let Account { printed, figures } = self.0;
         let Printed { taken, all } = printed;
-        write!(f, "{taken} bytes taken, all {all}; {}", Listed(figures))
+        write!(f, "{taken} bytes taken, all {all}; {figures}")
     }
 }
 
@@ -93,8 +93,7 @@ fn main(rt: HostRuntime) -> io::Result<()> {
     let mut form = [b'.'; 24];
     let mut printed = BufferWriter::new(&mut form);
     let mut typed = MatchingWriter::new(b"a(std)");
-    let mut accounts = (Err(Refusal::Unknown(0)), Err(Refusal::Unknown(0)));
-    let mut sheet = replay(
+    let mut history = replay(
         &mut types,
         &mut fields,
         &DAY,
@@ -103,15 +102,13 @@ fn main(rt: HostRuntime) -> io::Result<()> {
         &mut printed,
         SHIFTS,
         &mut typed,
-        &mut accounts,
     );
     for (call, answer) in DAY.iter().zip(answers) {
         println!(rt; "{}: {}", Asked(call), Answer(answer))?;
     }
-    let (wage, shifts) = accounts;
-    println!(rt; "{WAGE}: {}", Answer(wage.map(Entry)))?;
-    println!(rt; "{SHIFTS}: {}", Answer(shifts.map(Entry)))?;
-    let (type_rows, field_rows) = sheet.counts();
+    println!(rt; "{WAGE}: {}", Answer(history.first.map(Entry)))?;
+    println!(rt; "{SHIFTS}: {}", Answer(history.second.map(Entry)))?;
+    let (type_rows, field_rows) = history.sheet.counts();
     println!(rt; "rows in use: {type_rows} of types, {field_rows} of fields")?;
     let text = from_utf8(&form).unwrap_or("");
     println!(rt; "the wage's shape: {text}")

@@ -9,6 +9,9 @@ use Rattle.std.proofs.lemmas.List.{length_push, get_or_push, get_or_append_left,
 use Rattle.grammar.specs.declared.figures.Figures.{Figures}
 use Rattle.book.specs.Nodes.{Node, array, maybe, dict, structure, node_figures, figures_from, Part, Parts, Known, Chain}
 use Rattle.book.proofs.Figured.{figures_push}
+use Rattle.layout.specs.declared.row.Kind.{Kind}
+use Rattle.layout.specs.Kinds.{kind_number}
+use Rattle.layout.proofs.KindNumbers.{kind_of, kind_back}
 use Rattle.layout.specs.declared.row.TypeRow.{TypeRow}
 use Rattle.layout.specs.declared.row.FieldRow.{FieldRow}
 use Rattle.layout.specs.Tails.{blank_field, field_key, row_tails, row_tails_from, FieldsGood}
@@ -48,12 +51,14 @@ figures_same f =
     ap (λ (b : Bool). figures_by_numbers (figures_code f) b (eqb (bit f.maybe) 1)) (bit_back f.fixed)
     ∙ ap (figures_by_numbers (figures_code f) f.fixed) (bit_back f.maybe)
 
-type_same : (r : TypeRow) → record { kind = r.kind; first = r.first; second = r.second; figures = figures_back (figures_code r.figures) } ≡ r
-type_same r = ap (λ (f : Figures). record { kind = r.kind; first = r.first; second = r.second; figures = f }) (figures_same r.figures)
+type_same : (r : TypeRow) → record { kind = kind_of (kind_number r.kind); first = r.first; second = r.second; figures = figures_back (figures_code r.figures) } ≡ r
+type_same r =
+    ap (λ (k : Kind). record { kind = k; first = r.first; second = r.second; figures = figures_back (figures_code r.figures) }) (kind_back r.kind)
+    ∙ ap (λ (f : Figures). record { kind = r.kind; first = r.first; second = r.second; figures = f }) (figures_same r.figures)
 
 type_set : IsSet TypeRow
-type_set = hedberg (by_code (λ r. r.kind ∷ r.first ∷ r.second ∷ figures_code r.figures)
-    (λ u. record { kind = get_or u 0 0; first = get_or u 1 0; second = get_or u 2 0; figures = figures_back (drop 3 u) }) type_same)
+type_set = hedberg (by_code (λ r. kind_number r.kind ∷ r.first ∷ r.second ∷ figures_code r.figures)
+    (λ u. record { kind = kind_of (get_or u 0 0); first = get_or u 1 0; second = get_or u 2 0; figures = figures_back (drop 3 u) }) type_same)
 
 field_set : IsSet FieldRow
 field_set = hedberg (by_code field_key (λ u. record { field = get_or u 0 0; next = get_or u 1 0; count = get_or u 2 0 }) (λ r. refl))

@@ -1,4 +1,5 @@
 pub mod Places
+pub mod KindNumbers
 pub mod Keep
 pub mod Ask
 pub mod Laying

@@ -1,10 +1,13 @@
 -- More field rows leave the type rows as they are.
-use Rattle.std.proofs.Common.{◌≡◌, ℕ, zero, suc, ◌+◌, ◌<◌, ◌≤◌, Bool, true, false, cond, eqb, List, [], ◌∷◌, ◌++◌, length, get_or, take, sym, refl, ap, ◌∙◌, subst, arith, ne_eqb}
-use native.Mathlib.Decide.{dec_lt, ℕ_discrete}
+use Rattle.std.proofs.Common.{◌≡◌, ℕ, zero, suc, ◌+◌, ◌<◌, ◌≤◌, Bool, true, false, cond, List, [], ◌∷◌, ◌++◌, length, get_or, take, sym, refl, ap, ◌∙◌, subst, arith}
+use native.Mathlib.Decide.{dec_lt}
 use Rattle.std.proofs.lemmas.List.{get_or_append_left, get_or-map, length-map, length-take-le, get_or_past, same_lists}
 use Rattle.grammar.specs.Lists.{has, place, add}
 use Rattle.book.specs.Nodes.{Node, array, maybe, dict, structure, figures_from, Chain}
 use Rattle.book.specs.Makers.{add_tails}
+use Rattle.layout.specs.declared.row.Kind.{Kind}
+use Rattle.layout.specs.declared.row.Kind.TheVariants.{Blank, Array, Dict, Structure, Maybe}
+use Rattle.layout.proofs.KindNumbers.{same_kind}
 use Rattle.layout.specs.declared.row.TypeRow.{TypeRow}
 use Rattle.layout.specs.declared.row.FieldRow.{FieldRow}
 use Rattle.book.specs.Rows.{tail_number}
@@ -57,18 +60,18 @@ in_range T (suc k) e = go (dec_lt k (length T))
     go (yes y) = y
     go (no n) = let z : suc k ≡ 0 = e ∙ ap (tail_number T) (get_or_past T k [] (omega arith)) in absurd (omega arith)
 
-structure_first : (L : List TypeRow) (F : List FieldRow) → Good L F → (k : ℕ) → k < length L → (get_or L k blank_type).kind ≡ 3 → (get_or L k blank_type).first ≤ length (row_tails F)
+structure_first : (L : List TypeRow) (F : List FieldRow) → Good L F → (k : ℕ) → k < length L → (get_or L k blank_type).kind ≡ Structure → (get_or L k blank_type).first ≤ length (row_tails F)
 structure_first L F g k l e =
     let r : TypeRow = get_or L k blank_type in
-    let n : node_of F r ≡ structure (tail_at (row_tails F) r.first) = ap (λ (u : ℕ). node_by F u r.first r.second) e in
+    let n : node_of F r ≡ structure (tail_at (row_tails F) r.first) = ap (λ (u : Kind). node_by F u r.first r.second) e in
     in_range (row_tails F) r.first (ap (λ (u : List ℕ). get_or u 1 0) (g.keys k l ∙ ap (node_key (row_tails F)) n))
 
-node_same : (F F' : List FieldRow) (k a b : ℕ) → (k ≡ 3 → tail_at (row_tails F') a ≡ tail_at (row_tails F) a) → node_by F' k a b ≡ node_by F k a b
-node_same F F' k a b h = go (ℕ_discrete k 3)
-  where
-    go : Dec (k ≡ 3) → node_by F' k a b ≡ node_by F k a b
-    go (yes e) = ap (λ (u : List ℕ). cond (eqb k 1) (array a) (cond (eqb k 2) (dict a b) (cond (eqb k 3) (structure u) (maybe a)))) (h e)
-    go (no n) = rw (ne_eqb k 3 n)
+node_same : (F F' : List FieldRow) (k : Kind) (a b : ℕ) → (k ≡ Structure → tail_at (row_tails F') a ≡ tail_at (row_tails F) a) → node_by F' k a b ≡ node_by F k a b
+node_same F F' Blank a b h = refl
+node_same F F' Array a b h = refl
+node_same F F' Dict a b h = refl
+node_same F F' Structure a b h = ap structure (h refl)
+node_same F F' Maybe a b h = refl
 
 node_key_same : (F F' : List FieldRow) (x : Node) → ((fs : List ℕ) → x ≡ structure fs → tail_number (row_tails F') fs ≡ tail_number (row_tails F) fs) → node_key (row_tails F') x ≡ node_key (row_tails F) x
 node_key_same F F' (array n) h = refl
@@ -89,7 +92,7 @@ module _ (L : List TypeRow) (F F' : List FieldRow) (fs : List ℕ) (g : Good L F
   key_same : (k : ℕ) → k < length L → node_key (row_tails F') (node_of F (get_or L k blank_type)) ≡ node_key (row_tails F) (node_of F (get_or L k blank_type))
   key_same k l = node_key_same F F' (node_of F (get_or L k blank_type))
       (λ gs z. let q : type_key (get_or L k blank_type) ≡ 3 ∷ tail_number (row_tails F) gs ∷ length gs ∷ [] = g.keys k l ∙ ap (node_key (row_tails F)) z in
-      let b : tail_number (row_tails F) gs ≤ length (row_tails F) = subst (λ (u : ℕ). u ≤ length (row_tails F)) (ap (λ (u : List ℕ). get_or u 1 0) q) (structure_first L F g k l (ap (λ (u : List ℕ). get_or u 0 0) q)) in
+      let b : tail_number (row_tails F) gs ≤ length (row_tails F) = subst (λ (u : ℕ). u ≤ length (row_tails F)) (ap (λ (u : List ℕ). get_or u 1 0) q) (structure_first L F g k l (same_kind (get_or L k blank_type).kind Structure (ap (λ (u : List ℕ). get_or u 0 0) q))) in
       ap (λ (U : List (List ℕ)). tail_number U gs) e ∙ place_front (row_tails F) fs gs b)
 
   pub good_more : FieldsGood F' → Good L F'

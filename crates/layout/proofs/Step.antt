@@ -7,6 +7,8 @@ use Rattle.rows.specs.Found.{Held, Added, Refused, Place, Absent}
 use Rattle.book.specs.Plain.{Answer}
 use Rattle.book.specs.Nodes.{Node, same_node, fields_of, tails_of}
 use Rattle.book.specs.Makers.{placed, add_tails}
+use Rattle.layout.specs.declared.row.Kind.{Kind}
+use Rattle.layout.proofs.KindNumbers.{same_kind}
 use Rattle.layout.specs.declared.row.TypeRow.{TypeRow}
 use Rattle.layout.specs.declared.row.FieldRow.{FieldRow}
 use Rattle.book.specs.Rows.{node_key}
@@ -18,7 +20,9 @@ use Rattle.layout.proofs.Keep.{good_push}
 use Rattle.layout.proofs.Tailed.{tails_push}
 
 node_of_key : (F : List FieldRow) (a r : TypeRow) → type_key a ≡ type_key r → node_of F a ≡ node_of F r
-node_of_key F a r e = ap (λ (k : List ℕ). node_by F (get_or k 0 0) (get_or k 1 0) (get_or k 2 0)) e
+node_of_key F a r e =
+    ap (λ (k : Kind). node_by F k a.first a.second) (same_kind a.kind r.kind (ap (λ (k : List ℕ). get_or k 0 0) e))
+    ∙ ap (λ (k : List ℕ). node_by F r.kind (get_or k 1 0) (get_or k 2 0)) e
 
 pub node_at : (L : List TypeRow) (F : List FieldRow) (j : ℕ) (d : Node) → j < length L → get_or (nodes F L) j d ≡ node_of F (get_or L j blank_type)
 node_at L F j d l = get_or-map (node_of F) L j blank_type d l

@@ -4,6 +4,7 @@ use Rattle.std.proofs.Math.Option.{Option, none, some}
 use Rattle.book.specs.Nodes.{Node, array, maybe, dict, structure}
 use Rattle.layout.specs.declared.row.TypeRow.{TypeRow}
 use Rattle.layout.specs.declared.row.FieldRow.{FieldRow}
+use Rattle.layout.specs.declared.row.Kind.TheVariants.{Blank, Array, Dict, Structure, Maybe}
 use Rattle.layout.specs.Tails.{tail_at, row_tails}
 
 -- the container with a number; Unit and the basic codes are none
@@ -12,11 +13,11 @@ container_at b n = cond (nat_lt n 15) none (some (slice_index_or b (n - 15) (arr
 
 -- what a row shows of its container
 abbrev pub Shows : List FieldRow → TypeRow → Option Node → Type 0
-Shows F x none = x.kind ≡ 0
-Shows F x (some (array n)) = (x.kind ≡ 1) × (x.first ≡ n)
-Shows F x (some (maybe n)) = (x.kind ≡ 4) × (x.first ≡ n)
-Shows F x (some (dict k v)) = (x.kind ≡ 2) × (x.first ≡ k) × (x.second ≡ v)
-Shows F x (some (structure fs)) = (x.kind ≡ 3) × (tail_at (row_tails F) x.first ≡ fs) × (x.second ≡ length fs)
+Shows F x none = x.kind ≡ Blank
+Shows F x (some (array n)) = (x.kind ≡ Array) × (x.first ≡ n)
+Shows F x (some (maybe n)) = (x.kind ≡ Maybe) × (x.first ≡ n)
+Shows F x (some (dict k v)) = (x.kind ≡ Dict) × (x.first ≡ k) × (x.second ≡ v)
+Shows F x (some (structure fs)) = (x.kind ≡ Structure) × (tail_at (row_tails F) x.first ≡ fs) × (x.second ≡ length fs)
 
 -- the row of a known number; it is blank for Unit and the basic codes
 pub record Shown (b : List Node) (F : List FieldRow) (n : ℕ) (x : TypeRow) : Type 0 where

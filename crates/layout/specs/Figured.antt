@@ -1,8 +1,8 @@
 -- Figures worked out from those of the parts.
-use Rattle.std.specs.Prelude.{◌≡◌, ℕ, ◌+◌, ◌<◌, ◌≤◌, List, [], length}
+use Rattle.std.specs.Prelude.{◌≡◌, ℕ, ◌+◌, ◌<◌, ◌≤◌, ◌⊎◌, List, [], length}
 use Rattle.grammar.specs.declared.figures.Figures.{Figures}
 use Rattle.grammar.specs.declared.error.Refusal.{Refusal}
-use Rattle.grammar.specs.declared.error.Refusal.TheVariants.{FormTooLong, Unknown}
+use Rattle.grammar.specs.declared.error.Refusal.TheVariants.{FormTooLong, Unknown, UnitPart}
 use Rattle.book.specs.Nodes.{Node, figures_at, figures_from}
 
 -- neither depth is more than the length
@@ -29,3 +29,17 @@ pub record Figured (b : List Node) (n : ℕ) (f : Figures) : Type 0 where
 pub record NotKnown (b : List Node) (n position : ℕ) (e : Refusal) : Type 0 where
   pub unknown : 15 + length b ≤ n
   pub refusal : e ≡ Unknown position
+
+-- n may be a part of a container, and f are its figures
+pub record FiguredPart (b : List Node) (n : ℕ) (f : Figures) : Type 0 where
+  pub figured : Figured b n f
+  pub more : 0 < n
+
+-- n, which is to be the first part, is no number of the book, or Unit
+pub record IsUnit (b : List Node) (n : ℕ) (e : Refusal) : Type 0 where
+  pub known : n < 15 + length b
+  pub unit : n ≡ 0
+  pub refusal : e ≡ UnitPart 0
+
+abbrev pub NotPart : List Node → ℕ → Refusal → Type 0
+NotPart b n e = NotKnown b n 0 e ⊎ IsUnit b n e

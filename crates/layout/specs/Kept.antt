@@ -1,25 +1,32 @@
 -- What the rows of a sheet hold, and what every sheet keeps.
-use Rattle.std.specs.Prelude.{◌≡◌, ℕ, ◌<◌, ◌≤◌, cond, List, [], ◌∷◌, map, length, take, ◌==◌, ◌≢◌, slice_index_or}
+use Rattle.std.specs.Prelude.{◌≡◌, ℕ, ◌<◌, ◌≤◌, List, [], ◌∷◌, map, length, take, ◌≢◌, slice_index_or}
 use Rattle.grammar.specs.declared.figures.Figures.{Figures}
 use Rattle.rows.specs.declared.RowList.{RowList}
 use Rattle.book.specs.Nodes.{Node, array, maybe, dict, structure, blank_figures, node_figures, figures_from, tails_of, Known, Chain}
 use Rattle.book.specs.Rows.{node_key}
 use Rattle.layout.specs.declared.row.TypeRow.{TypeRow}
 use Rattle.layout.specs.declared.row.FieldRow.{FieldRow}
+use Rattle.layout.specs.declared.row.Kind.{Kind}
+use Rattle.layout.specs.declared.row.Kind.TheVariants.{Blank, Array, Dict, Structure, Maybe}
+use Rattle.layout.specs.Kinds.{kind_number}
 use Rattle.layout.specs.Tails.{blank_field, tail_at, row_tails, FieldsGood}
 
 abbrev pub blank_type : TypeRow
-blank_type = record { kind = 0; first = 0; second = 0; figures = blank_figures }
+blank_type = record { kind = Blank; first = 0; second = 0; figures = blank_figures }
 
 abbrev pub type_key : TypeRow → List ℕ
-type_key r = r.kind ∷ r.first ∷ r.second ∷ []
+type_key r = kind_number r.kind ∷ r.first ∷ r.second ∷ []
 
 abbrev pub figures_in : TypeRow → Figures
 figures_in r = r.figures
 
--- the container that a kind and two parts stand for
-abbrev pub node_by : List FieldRow → ℕ → ℕ → ℕ → Node
-node_by F k a b = cond (k == 1) (array a) (cond (k == 2) (dict a b) (cond (k == 3) (structure (tail_at (row_tails F) a)) (maybe a)))
+-- the container that a kind and two parts stand for; a blank row stands for none, and is read as a maybe
+abbrev pub node_by : List FieldRow → Kind → ℕ → ℕ → Node
+node_by F Blank a b = maybe a
+node_by F Array a b = array a
+node_by F Dict a b = dict a b
+node_by F Structure a b = structure (tail_at (row_tails F) a)
+node_by F Maybe a b = maybe a
 
 abbrev pub node_of : List FieldRow → TypeRow → Node
 node_of F r = node_by F r.kind r.first r.second

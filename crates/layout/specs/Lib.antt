@@ -1,3 +1,4 @@
+pub mod Kinds
 pub mod Tails
 pub mod Laid
 pub mod Kept

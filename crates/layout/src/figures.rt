@@ -8,9 +8,6 @@ ghost use Rattle.layout.specs.Figured.{Bounded, Short, Long};
 use grammar::error::Refusal;
 use grammar::figures::Figures;
 
-// The most bytes that a printed form may have.
-const LONGEST_FORM: usize = 65535;
-
 // Length, D-Bus alignment, GVariant alignment and fixed size of Unit and of y b n q i u x t d s g o v h, by number.
 const FIRST: [(u16, u8, u8, bool); 15] = [
     (0, 8, 8, true),
@@ -30,45 +27,27 @@ const FIRST: [(u16, u8, u8, bool); 15] = [
     (1, 4, 4, true),
 ];
 
-// The figures of nothing.
-pub const NO_FIGURES: Figures = Figures {
-    length: 0,
-    structures: 0,
-    arrays: 0,
-    dbus: 0,
-    gvariant: 0,
-    fixed: false,
-    maybe: false,
-};
-
 // The figures of Unit, or of a basic code; blank for any other number.
 pub fn first_figures(n: usize) -> Figures
     ensures { result ≡ slice_index_or first_figures n blank_figures }
 {
-    if n >= FIRST.len() {
-        return NO_FIGURES;
-    }
-    let (length, dbus, gvariant, fixed) = FIRST[n];
-    Figures {
-        length,
-        structures: 0,
-        arrays: 0,
-        dbus,
-        gvariant,
-        fixed,
-        maybe: false,
+    match FIRST.get(n) {
+        Some(&(length, dbus, gvariant, fixed)) => Figures {
+            length,
+            dbus,
+            gvariant,
+            fixed,
+            ..Figures::NONE
+        },
+        None => Figures::NONE,
     }
 }
 
-// A length, if a printed form may have it.
+// A length, if a printed form may have it; that of the longest is the greatest `u16`.
 fn form_length(length: usize) -> Result<u16, Refusal>
     ensures { MatchResult result (λ l. (l ≡ length) × (length ≤ 65535)) (λ e. (e ≡ TooLong) × (65535 < length)) }
 {
-    if length > LONGEST_FORM {
-        Err(Refusal::FormTooLong)
-    } else {
-        Ok(length as u16)
-    }
+    u16::try_from(length).map_err(|_| Refusal::FormTooLong)
 }
 
 // The figures of the array of such elements.

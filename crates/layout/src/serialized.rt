@@ -1,6 +1,8 @@
 // The encoding formats.
-ghost use Rattle.std.specs.Prelude.{◌≡◌};
+ghost use Rattle.std.specs.Prelude.{◌≡◌, Some as Shown};
 ghost use Rattle.layout.specs.Format.{name_of};
+
+use std::fmt;
 
 #[derive(Clone, Copy, Drop, PartialEq, Eq, Debug)]
 pub enum Format {
@@ -17,5 +19,14 @@ impl Format {
             Format::DBus => "D-Bus",
             Format::GVariant => "GVariant",
         }
+    }
+}
+
+// A format is shown as its name.
+impl fmt::Display for Format {
+    ghost output = { λ format. Shown (name_of format) };
+
+    fn fmt<W: fmt::Write>(&self, f: &mut fmt::Formatter<W>) -> fmt::Result {
+        f.write_str(self.name())
     }
 }

@@ -1,2 +1,3 @@
-pub mod Asked
 pub mod Offering
+pub mod Matching
+pub mod Held

@@ -3,18 +3,19 @@ use Rattle.std.specs.Prelude.{ℕ, Bool, cond, ◌||◌, List, [], ◌++◌, len
 use Rattle.grammar.specs.Shape.{Text}
 use Rattle.grammar.specs.Refusals.{Outcome, accepted, refused}
 use Rattle.writers.specs.Rule.{accepted as accepted_by}
+use Rattle.writers.specs.State.{State}
 use Rattle.forms.specs.Forms.{bare_text}
 use Rattle.printing.specs.declared.printing.Printed.{Printed}
 use Rattle.book.specs.Plain.{same_text, text_of}
 use Rattle.book.specs.Questions.{if_known}
 
--- how many of the bytes of a text a writer with such contents takes in turn, and whether those are all
-abbrev pub taken_of : (List ℕ → ℕ → Bool) → List ℕ → Text → Printed
-taken_of rule c w = record { taken = accepted_by rule c w; all = (accepted_by rule c w == length w) }
+-- how many of the bytes of a text a writer in such a state takes in turn, and whether those are all
+abbrev pub taken_of : State → Text → Printed
+taken_of s w = record { taken = accepted_by s.rule s.taken w; all = (accepted_by s.rule s.taken w == length w) }
 
 -- what offering the form w of n to such a writer answers
-unfoldable pub written_of : List Text → ℕ → Text → (List ℕ → ℕ → Bool) → List ℕ → Outcome Printed
-written_of b n w rule c = if_known (length b) n (accepted (taken_of rule c w))
+unfoldable pub written_of : List Text → ℕ → Text → State → Outcome Printed
+written_of b n w s = if_known (length b) n (accepted (taken_of s w))
 
 -- how many bytes were taken: none after a refusal
 abbrev pub count_in : Outcome Printed → ℕ

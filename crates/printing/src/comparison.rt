@@ -7,13 +7,14 @@ ghost use Rattle.printing.specs.Forms.{eq_text_of};
 ghost use Rattle.forms.specs.Spans.{bytes_in, Inside};
 
 use crate::printing::offer_span;
-use forms::spans::{Span, bare, whole};
+use forms::spans::{bare, whole};
 use grammar::error::Refusal;
 use sheet::sheet::Sheet;
+use std::ops::Range;
 use writers::writer::MatchingWriter;
 
 // Whether the text is just these bytes of the printed form of `n`.
-fn is_span(sheet: &mut Sheet, n: u16, span: Span, text: &[u8]) -> bool
+fn is_span(sheet: &mut Sheet, n: u16, span: Range<usize>, text: &[u8]) -> bool
     requires { Inside (text_of (book_in sheet.old) n) span }
     ensures same { sheet.new ≡ sheet.old }
     ensures equal { result ≡ same_text text.now (bytes_in span (text_of (book_in sheet.old) n)) }
@@ -24,6 +25,7 @@ fn is_span(sheet: &mut Sheet, n: u16, span: Span, text: &[u8]) -> bool
 }
 
 // Whether the text is the printed or the bare form of `n`.
+#[tactic(auto, unfolding(crate::specs::Forms::eq_text_of))]
 pub fn eq_text(sheet: &mut Sheet, n: u16, text: &[u8]) -> Result<bool, Refusal>
     ensures same { sheet.new ≡ sheet.old }
     ensures answer { outcome result ≡ eq_text_of (book_in sheet.old) n text.now }

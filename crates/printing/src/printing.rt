@@ -1,17 +1,18 @@
 // Printed and bare forms, offered to a writer or put into a buffer.
-ghost use Rattle.std.specs.Prelude.{◌≡◌, ◌++◌, length, take, drop};
+ghost use Rattle.std.specs.Prelude.{◌≡◌, length, take};
 ghost use Rattle.grammar.specs.Refusals.{outcome};
 ghost use Rattle.book.specs.Plain.{text_of};
-ghost use Rattle.writers.specs.Rule.{Wrote};
+ghost use Rattle.writers.specs.State.{Took, Wrote};
 ghost use Rattle.forms.specs.Forms.{bare_text};
 ghost use Rattle.sheet.specs.Seen.{book_in};
 ghost use Rattle.printing.specs.Forms.{written_of, count_in, OnRefusal, filling, into_of, into_after};
 ghost use Rattle.forms.specs.Spans.{bytes_in, Inside};
 
 use forms::bytes::byte;
-use forms::spans::{Span, bare, whole};
+use forms::spans::{bare, whole};
 use grammar::error::Refusal;
 use sheet::sheet::Sheet;
+use std::ops::Range;
 use writers::writer::{BufferWriter, Writer};
 
 // How many bytes a writer took, and whether those were all.
@@ -22,37 +23,35 @@ pub struct Printed {
 }
 
 // Offers some bytes of the printed form of `n` in order, until one is declined.
-pub(crate) fn offer_span<W: Writer>(sheet: &mut Sheet, n: u16, span: Span, w: &mut W) -> Printed
+pub(crate) fn offer_span<W: Writer>(
+    sheet: &mut Sheet,
+    n: u16,
+    span: Range<usize>,
+    w: &mut W,
+) -> Printed
     requires { Inside (text_of (book_in sheet.old) n) span }
     ensures same { sheet.new ≡ sheet.old }
-    ensures wrote { Wrote (W.Writer.rule w.old) (W.Writer.taken w.old) (bytes_in span (text_of (book_in sheet.old) n)) result.taken result.all (W.Writer.taken w.new) }
-    ensures rule { W.Writer.rule w.new ≡ W.Writer.rule w.old }
-    ensures rest { W.Writer.rest w.new ≡ drop result.taken (W.Writer.rest w.old) }
-    ensures site { W.Writer.site w.new ≡ W.Writer.site w.old }
+    ensures wrote { Wrote (W.state w.old) (W.state w.new) (bytes_in span (text_of (book_in sheet.old) n)) result.taken result.all }
 {
-    for i in 0..span.count {
-        let b = byte(sheet, n, span.from + i);
+    let count = span.len();
+    for taken in 0..count {
+        let b = byte(sheet, n, span.start + taken).unwrap();
         if !w.offer(b) {
-            return Printed {
-                taken: i,
-                all: false,
-            };
+            return Printed { taken, all: false };
         }
     }
     Printed {
-        taken: span.count,
+        taken: count,
         all: true,
     }
 }
 
 // Offers the printed form of `n` to the writer, byte by byte, until one is declined.
+#[tactic(auto, unfolding(crate::specs::Forms::written_of))]
 pub fn write_as_string<W: Writer>(sheet: &mut Sheet, n: u16, w: &mut W) -> Result<Printed, Refusal>
     ensures same { sheet.new ≡ sheet.old }
-    ensures answer { outcome result ≡ written_of (book_in sheet.old) n (text_of (book_in sheet.old) n) (W.Writer.rule w.old) (W.Writer.taken w.old) }
-    ensures taken { W.Writer.taken w.new ≡ W.Writer.taken w.old ++ take (count_in (outcome result)) (text_of (book_in sheet.old) n) }
-    ensures rule { W.Writer.rule w.new ≡ W.Writer.rule w.old }
-    ensures rest { W.Writer.rest w.new ≡ drop (count_in (outcome result)) (W.Writer.rest w.old) }
-    ensures site { W.Writer.site w.new ≡ W.Writer.site w.old }
+    ensures answer { outcome result ≡ written_of (book_in sheet.old) n (text_of (book_in sheet.old) n) (W.state w.old) }
+    ensures took { Took (W.state w.old) (W.state w.new) (take (count_in (outcome result)) (text_of (book_in sheet.old) n)) }
     ensures still { OnRefusal (outcome result) (w.new ≡ w.old) }
 {
     let span = whole(sheet, n)?;
@@ -60,17 +59,15 @@ pub fn write_as_string<W: Writer>(sheet: &mut Sheet, n: u16, w: &mut W) -> Resul
 }
 
 // The same with the bare form.
+#[tactic(auto, unfolding(crate::specs::Forms::written_of))]
 pub fn write_as_string_no_parens<W: Writer>(
     sheet: &mut Sheet,
     n: u16,
     w: &mut W,
 ) -> Result<Printed, Refusal>
     ensures same { sheet.new ≡ sheet.old }
-    ensures answer { outcome result ≡ written_of (book_in sheet.old) n (bare_text (text_of (book_in sheet.old) n)) (W.Writer.rule w.old) (W.Writer.taken w.old) }
-    ensures taken { W.Writer.taken w.new ≡ W.Writer.taken w.old ++ take (count_in (outcome result)) (bare_text (text_of (book_in sheet.old) n)) }
-    ensures rule { W.Writer.rule w.new ≡ W.Writer.rule w.old }
-    ensures rest { W.Writer.rest w.new ≡ drop (count_in (outcome result)) (W.Writer.rest w.old) }
-    ensures site { W.Writer.site w.new ≡ W.Writer.site w.old }
+    ensures answer { outcome result ≡ written_of (book_in sheet.old) n (bare_text (text_of (book_in sheet.old) n)) (W.state w.old) }
+    ensures took { Took (W.state w.old) (W.state w.new) (take (count_in (outcome result)) (bare_text (text_of (book_in sheet.old) n))) }
     ensures still { OnRefusal (outcome result) (w.new ≡ w.old) }
 {
     let span = bare(sheet, n)?;
@@ -78,13 +75,13 @@ pub fn write_as_string_no_parens<W: Writer>(
 }
 
 // Puts some bytes of the printed form of `n` to the front of the buffer, if it has room for all of them.
-fn fill(sheet: &mut Sheet, n: u16, span: Span, buffer: &mut [u8]) -> Result<usize, Refusal>
+fn fill(sheet: &mut Sheet, n: u16, span: Range<usize>, buffer: &mut [u8]) -> Result<usize, Refusal>
     requires { Inside (text_of (book_in sheet.old) n) span }
     ensures same { sheet.new ≡ sheet.old }
     ensures answer { outcome result ≡ filling (bytes_in span (text_of (book_in sheet.old) n)) (length buffer.old) }
     ensures after { buffer.new ≡ into_after (outcome result) (bytes_in span (text_of (book_in sheet.old) n)) buffer.old }
 {
-    if buffer.len() < span.count {
+    if buffer.len() < span.len() {
         return Err(Refusal::ShortBuffer);
     }
     let mut w = BufferWriter::new(buffer);
@@ -93,6 +90,7 @@ fn fill(sheet: &mut Sheet, n: u16, span: Span, buffer: &mut [u8]) -> Result<usiz
 }
 
 // Writes the printed form of `n` to the front of the buffer, all of it or nothing, and answers its length.
+#[tactic(auto, unfolding(crate::specs::Forms::into_of))]
 pub fn to_string(sheet: &mut Sheet, n: u16, buffer: &mut [u8]) -> Result<usize, Refusal>
     ensures same { sheet.new ≡ sheet.old }
     ensures answer { outcome result ≡ into_of (book_in sheet.old) n (text_of (book_in sheet.old) n) (length buffer.old) }
@@ -103,6 +101,7 @@ pub fn to_string(sheet: &mut Sheet, n: u16, buffer: &mut [u8]) -> Result<usize, 
 }
 
 // The same with the bare form.
+#[tactic(auto, unfolding(crate::specs::Forms::into_of))]
 pub fn to_string_no_parens(sheet: &mut Sheet, n: u16, buffer: &mut [u8]) -> Result<usize, Refusal>
     ensures same { sheet.new ≡ sheet.old }
     ensures answer { outcome result ≡ into_of (book_in sheet.old) n (bare_text (text_of (book_in sheet.old) n)) (length buffer.old) }

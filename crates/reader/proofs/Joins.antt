@@ -133,16 +133,17 @@ eaten_in at b to r e p = subst (λ (x : Text). Eaten x at b r to) e p
 pub byte_in : {u text : Text} (at b to : ℕ) → u ≡ text → Byte u at b to → Byte text at b to
 byte_in at b to e p = subst (λ (x : Text). Byte x at b to) e p
 
-abbrev Behind : Text → ℕ → ℕ → Type 0
+-- what stands at a place is read as what stands at a later one
+abbrev pub Behind : Text → ℕ → ℕ → Type 0
 Behind text from at = (s a : ℕ) (k : List Frame) → run (one s a ∷ k) (drop from text) ≡ run (one s a ∷ k) (drop at text)
 
-pub opened : (text : Text) (from at b to : ℕ) → from ≤ at → Behind text from at → Byte text at b to → (b ≡ 109 → ⊥) → Opened text from b to
+opened : (text : Text) (from at b to : ℕ) → from ≤ at → Behind text from at → Byte text at b to → (b ≡ 109 → ⊥) → Opened text from b to
 opened text from at b to le h y n =
     let p : to - 1 ≡ at = omega arith in
     record { forward = omega arith; within = omega arith; not_maybe = n; here = rw (p, y.1) y.2; reads = λ s a k. h s a k ∙ rw (y.1, y.2) refl }
 
-pub opening_ended : (text : Text) (from at to : ℕ) → Behind text from at → at ≡ length text → to ≡ at → (to ≤ length text) × ((s a : ℕ) (k : List Frame) → run (one s a ∷ k) (drop from text) ≡ bad Ended (drop to text))
-opening_ended text from at to h e q = (omega arith, λ s a k. h s a k ∙ (ended text at to (one s a ∷ []) (run_one s a) e q).breaks k)
+pub opened_at : {u text : Text} {from at b to : ℕ} → (u ≡ text) × (from ≤ at) × Behind text from at → Byte u at b to → (b ≡ 109 → ⊥) → Opened text from b to
+opened_at {text = text} {from = from} {at = at} {b = b} {to = to} i y n = opened text from at b to i.1 i.2 (byte_in at b to i.0 y) n
 
 pub passed_at : {u text : Text} {i at to : ℕ} {fs : List Frame} → u ≡ text → i ≡ at → Passed u i fs to → Passed text at fs to
 passed_at {u} {text} {i} {at} {to} {fs} e q p = subst (λ (n : ℕ). Passed text n fs to) q (subst (λ (x : Text). Passed x i fs to) e p)

@@ -35,11 +35,7 @@ impl<'t> Cursor<'t> {
     pub fn peek(&self) -> Option<u8>
         ensures { MatchOption result (self.now.at ≡ length self.now.text.now) (λ b. (self.now.at < length self.now.text.now) × (drop self.now.at self.now.text.now ≡ b ∷ drop (self.now.at + 1) self.now.text.now)) }
     {
-        if self.at < self.text.len() {
-            Some(self.text[self.at])
-        } else {
-            None
-        }
+        self.text.get(self.at).copied()
     }
 
     // The byte at the place, which moves past it; none at the end.

@@ -1,6 +1,7 @@
 // Complete types in a row: a list of types and a type call for each other.
 ghost use Rattle.std.specs.Prelude.{◌≡◌, ◌-◌, ◌<◌, [], ◌∷◌};
 ghost use Rattle.grammar.specs.Shape.{is_basic};
+ghost use Rattle.grammar.specs.declared.error.Cause.TheVariants.{Ended as EndedEarly};
 ghost use Rattle.grammar.specs.Refusals.{outcome};
 ghost use Rattle.grammar.specs.Scan.{one, others, close};
 ghost use Rattle.reader.specs.Parsing.{Parsed, Reading, CountedOr};
@@ -8,9 +9,7 @@ ghost use Rattle.reader.specs.Judged.{Judged, CountedIn};
 
 use crate::cursor::Cursor;
 use grammar::error::{Cause, Fault, Refusal};
-
-// How many bytes a text to be read may have.
-const LONGEST_TEXT: usize = 65_535;
+use grammar::limits::LONGEST_TEXT;
 
 // How deep structures may be nested, and how deep arrays and dictionaries.
 const MAX_STRUCT_DEPTH: u8 = 32;
@@ -39,6 +38,16 @@ pub fn is_basic(b: u8) -> bool
     )
 }
 
+// That the text ends at the place.
+fn ended(cursor: &Cursor) -> Fault
+    ensures { result ≡ record { cause = EndedEarly; place = cursor.now.at } }
+{
+    Fault {
+        cause: Cause::Ended,
+        place: cursor.at,
+    }
+}
+
 // What is wrong with the byte before the place.
 fn behind(cursor: &Cursor, cause: Cause) -> Fault
     requires { 0 < cursor.now.at }
@@ -55,10 +64,7 @@ fn end(cursor: &mut Cursor) -> Result<(), Fault>
     ensures { Reading cursor.old (close ∷ []) result cursor.new }
 {
     let Some(b) = cursor.take() else {
-        return Err(Fault {
-            cause: Cause::Ended,
-            place: cursor.at,
-        });
+        return Err(ended(cursor));
     };
     if b == b'}' {
         Ok(())
@@ -88,10 +94,7 @@ fn parse_signature(cursor: &mut Cursor, structures: u8, arrays: u8) -> Result<()
 {
     let b = loop {
         let Some(b) = cursor.take() else {
-            return Err(Fault {
-                cause: Cause::Ended,
-                place: cursor.at,
-            });
+            return Err(ended(cursor));
         };
         if b != b'm' {
             break b;
@@ -121,7 +124,7 @@ fn parse_all(text: &[u8]) -> Result<usize, Fault>
 {
     let mut cursor = Cursor::new(text);
     let mut types = 0;
-    while cursor.at < text.len() {
+    while !cursor.at_end() {
         parse_signature(&mut cursor, MAX_STRUCT_DEPTH, MAX_ARRAY_DEPTH)?;
         types += 1;
     }

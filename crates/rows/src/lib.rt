@@ -21,6 +21,15 @@ pub struct RowList<'a, R> {
     cap: usize,
 }
 
+// A place among the first `n` rows with a row that is the same. It takes the rows as they are lent: `iter` on the field of a
+// `&mut self` would leave open what the field holds after.
+fn place_in<R: Row>(rows: &mut [R], n: usize, row: &R) -> Option<usize>
+    ensures same { rows.new ≡ rows.old }
+    ensures found { MatchOption result (Absent R.Row.key rows.old (min n (length rows.old)) (R.Row.key row.now)) (λ i. (i < min n (length rows.old)) × ((d : R) → R.Row.key (slice_index_or rows.old i d) ≡ R.Row.key row.now)) }
+{
+    rows.iter().take(n).position(|r| r.same(row))
+}
+
 impl<'a, R: Row> RowList<'a, R> {
     // A list with no row in use: every lent row is blank, and at most `most` are ever used.
     pub fn open(rows: &'a mut [R], blank: R, most: usize) -> RowList<'a, R>
@@ -29,9 +38,7 @@ impl<'a, R: Row> RowList<'a, R> {
         ensures long { length result.rows.now ≡ length rows.old }
         ensures blank { (k : ℕ) (d : R) → k < length result.rows.now → slice_index_or result.rows.now k d ≡ blank }
     {
-        for r in rows.iter_mut() {
-            *r = blank;
-        }
+        rows.fill_with(|| blank);
         let cap = rows.len().min(most);
         RowList {
             rows,
@@ -65,12 +72,7 @@ impl<'a, R: Row> RowList<'a, R> {
         ensures same { self.new ≡ self.old }
         ensures found { MatchOption result (Absent R.Row.key self.old.rows.now (used self.old) (R.Row.key row.now)) (λ i. (i < used self.old) × ((d : R) → R.Row.key (slice_index_or self.old.rows.now i d) ≡ R.Row.key row.now)) }
     {
-        for i in 0..self.len() {
-            if self.rows[i].same(row) {
-                return Some(i);
-            }
-        }
-        None
+        place_in(self.rows, self.count, row)
     }
 
     // A place in use with a row that is the same; where there is none, the row is added after the last, if one is unused.
@@ -99,11 +101,10 @@ impl<'a, R: Row> RowList<'a, R> {
         ensures above { (k : ℕ) (d : R) → self.old.count ≤ k → slice_index_or self.new.rows.now k d ≡ slice_index_or self.old.rows.now k d }
         ensures between { (k : ℕ) (d : R) → to ≤ k → k < self.old.count → k < length self.old.rows.now → slice_index_or self.new.rows.now k d ≡ blank }
     {
-        while self.count > to {
-            self.count -= 1;
-            if self.count < self.rows.len() {
-                self.rows[self.count] = blank;
-            }
+        let n = self.len();
+        if to < n {
+            self.rows[to..n].fill_with(|| blank);
         }
+        self.count = self.count.min(to);
     }
 }

@@ -1,3 +1,4 @@
+pub mod Backwards
 pub mod Same
 pub mod Makes
 pub mod Structs

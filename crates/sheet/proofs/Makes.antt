@@ -1,18 +1,19 @@
 -- The calls of the makers, way by way.
-use Rattle.std.proofs.Common.{◌≡◌, ℕ, ◌+◌, ◌<◌, ◌≤◌, List, [], ◌∷◌, length, sym, refl, ap, ◌∙◌, subst, arith, le-ltb, lt-ltb, eq-eqb, ne_eqb}
+use Rattle.std.proofs.Common.{◌≡◌, ℕ, ◌+◌, ◌<◌, ◌≤◌, List, [], ◌∷◌, length, cond, ltb, eqb, inl, inr, sym, refl, ap, ◌∙◌, subst, arith, le-ltb, lt-ltb, eq-eqb, ne_eqb}
 use Rattle.std.proofs.lemmas.List.{length-map}
 use Rattle.grammar.specs.declared.figures.Figures.{Figures}
 use Rattle.grammar.specs.declared.error.Refusal.{Refusal}
-use Rattle.grammar.specs.Refusals.{refused}
+use Rattle.grammar.specs.Refusals.{refused, number_of, values_of}
 use Rattle.rows.specs.declared.RowList.{RowList}
 use Rattle.book.specs.Plain.{Answer}
-use Rattle.book.specs.Nodes.{Node, array, maybe, dict, figures_at, figures_from, array_figures, maybe_figures, dict_figures, size_of}
-use Rattle.book.specs.Makers.{placed, sized, array_call, maybe_call, dict_call}
+use Rattle.book.specs.Nodes.{Node, dict, figures_at, figures_from, array_figures, maybe_figures, dict_figures, size_of}
+use Rattle.book.specs.Makers.{placed, sized, dict_call}
+use Rattle.layout.specs.declared.row.Kind.TheVariants.{Array, Dict, Maybe}
 use Rattle.layout.specs.declared.row.TypeRow.{TypeRow}
 use Rattle.layout.specs.declared.row.FieldRow.{FieldRow}
 use Rattle.sheet.specs.declared.sheet.Sheet.{Sheet}
 use Rattle.layout.specs.Kept.{Fit, nodes_of, tails_in, types_in, fields_in, node_of}
-use Rattle.layout.specs.Figured.{Bounded, Short, Figured, NotKnown}
+use Rattle.layout.specs.Figured.{Bounded, Short, Figured, NotKnown, FiguredPart, NotPart}
 use Rattle.layout.specs.Made.{Made, with_tails}
 use Rattle.layout.proofs.Bounds.{bounded}
 use Rattle.layout.proofs.Undo.{unchanged_refl, grew_same}
@@ -25,24 +26,24 @@ module _ (t : RowList TypeRow) (f : RowList FieldRow) where
   count : length (nodes_of t f) ≡ length (types_in t)
   count = length-map (types_in t) (node_of (fields_in f))
 
-  pub fit_array : (n : ℕ) (part whole : Figures) → Figured (nodes_of t f) n part → (n ≡ 0 → ⊥) → Short (array_figures part) whole
-      → Fit (types_in t) (fields_in f) (record { kind = 1; first = n; second = 0; figures = whole })
-  fit_array n part whole k z s = record {
+  pub fit_array : (n : ℕ) (part whole : Figures) → FiguredPart (nodes_of t f) n part → Short (array_figures part) whole
+      → Fit (types_in t) (fields_in f) (record { kind = Array; first = n; second = 0; figures = whole })
+  fit_array n part whole k s = record {
     coded = refl;
-    figures = s.figures ∙ ap array_figures k.figures;
-    known = (omega arith, omega (arith, count, k.known));
+    figures = s.figures ∙ ap array_figures k.figured.figures;
+    known = (k.more, omega (arith, count, k.figured.known));
   }
 
-  pub fit_maybe : (n : ℕ) (part whole : Figures) → Figured (nodes_of t f) n part → (n ≡ 0 → ⊥) → Short (maybe_figures part) whole
-      → Fit (types_in t) (fields_in f) (record { kind = 4; first = n; second = 0; figures = whole })
-  fit_maybe n part whole k z s = record {
+  pub fit_maybe : (n : ℕ) (part whole : Figures) → FiguredPart (nodes_of t f) n part → Short (maybe_figures part) whole
+      → Fit (types_in t) (fields_in f) (record { kind = Maybe; first = n; second = 0; figures = whole })
+  fit_maybe n part whole k s = record {
     coded = refl;
-    figures = s.figures ∙ ap maybe_figures k.figures;
-    known = (omega arith, omega (arith, count, k.known));
+    figures = s.figures ∙ ap maybe_figures k.figured.figures;
+    known = (k.more, omega (arith, count, k.figured.known));
   }
 
   pub fit_dict : (k v : ℕ) (key value whole : Figures) → Figured (nodes_of t f) k key → Figured (nodes_of t f) v value → (k ≡ 0 → ⊥) → (v ≡ 0 → ⊥) → Short (dict_figures key value) whole
-      → Fit (types_in t) (fields_in f) (record { kind = 2; first = k; second = v; figures = whole })
+      → Fit (types_in t) (fields_in f) (record { kind = Dict; first = k; second = v; figures = whole })
   fit_dict k v key value whole p q y z s = record {
     coded = refl;
     figures = s.figures ∙ ap (λ (u : Figures). dict_figures u value) p.figures ∙ ap (dict_figures (figures_at (figures_from [] (nodes_of t f)) k)) q.figures;
@@ -88,36 +89,23 @@ module _ (cap : ℕ) (b : List Node) where
   sized_long : (x : Node) → 65535 < size_of b x → sized cap b x ≡ (refused 7 [], b)
   sized_long x l = rw (lt-ltb 65535 (size_of b x) l)
 
-  module _ (n : ℕ) where
-    pub array_unknown : 15 + length b ≤ n → array_call cap b n ≡ (refused 3 (0 ∷ []), b)
-    array_unknown h = rw (le-ltb n (15 + length b) h)
+  -- a container x of the one part n
+  module _ (n : ℕ) (x : Node) where
+    abbrev pub part_call : Answer × List Node
+    part_call = cond (ltb n (15 + length b)) (cond (eqb n 0) (refused 4 (0 ∷ []), b) (sized cap b x)) (refused 3 (0 ∷ []), b)
 
-    pub array_unit : n < 15 + length b → n ≡ 0 → array_call cap b n ≡ (refused 4 (0 ∷ []), b)
-    array_unit h z = rw (lt-ltb n (15 + length b) h, eq-eqb n 0 z)
+    pub part_refused : (e : Refusal) → NotPart b n e → part_call ≡ (refused (number_of e) (values_of e), b)
+    part_refused e (inl u) = rw (le-ltb n (15 + length b) u.unknown, u.refusal) refl
+    part_refused e (inr u) = rw (lt-ltb n (15 + length b) u.known, eq-eqb n 0 u.unit, u.refusal) refl
 
-    array_known : n < 15 + length b → (n ≡ 0 → ⊥) → array_call cap b n ≡ sized cap b (array n)
-    array_known h z = rw (lt-ltb n (15 + length b) h, ne_eqb n 0 z)
+    part_sized : (f : Figures) → FiguredPart b n f → part_call ≡ sized cap b x
+    part_sized f k = rw (lt-ltb n (15 + length b) k.figured.known, ne_eqb n 0 (omega (arith, k.more))) refl
 
-    pub array_long : (part : Figures) → Figured b n part → (n ≡ 0 → ⊥) → 65535 < (array_figures part).length → array_call cap b n ≡ (refused 7 [], b)
-    array_long part k z l = array_known k.known z ∙ sized_long (array n) (subst (λ (p : Figures). 65535 < (array_figures p).length) k.figures l)
+    pub part_long : (f : Figures) → FiguredPart b n f → 65535 < size_of b x → part_call ≡ (refused 7 [], b)
+    part_long f k l = part_sized f k ∙ sized_long x l
 
-    pub array_good : (part : Figures) → Figured b n part → (n ≡ 0 → ⊥) → (array_figures part).length ≤ 65535 → array_call cap b n ≡ placed cap b (array n)
-    array_good part k z l = array_known k.known z ∙ sized_in (array n) (subst (λ (p : Figures). (array_figures p).length ≤ 65535) k.figures l)
-
-    pub maybe_unknown : 15 + length b ≤ n → maybe_call cap b n ≡ (refused 3 (0 ∷ []), b)
-    maybe_unknown h = rw (le-ltb n (15 + length b) h)
-
-    pub maybe_unit : n < 15 + length b → n ≡ 0 → maybe_call cap b n ≡ (refused 4 (0 ∷ []), b)
-    maybe_unit h z = rw (lt-ltb n (15 + length b) h, eq-eqb n 0 z)
-
-    maybe_known : n < 15 + length b → (n ≡ 0 → ⊥) → maybe_call cap b n ≡ sized cap b (maybe n)
-    maybe_known h z = rw (lt-ltb n (15 + length b) h, ne_eqb n 0 z)
-
-    pub maybe_long : (part : Figures) → Figured b n part → (n ≡ 0 → ⊥) → 65535 < (maybe_figures part).length → maybe_call cap b n ≡ (refused 7 [], b)
-    maybe_long part k z l = maybe_known k.known z ∙ sized_long (maybe n) (subst (λ (p : Figures). 65535 < (maybe_figures p).length) k.figures l)
-
-    pub maybe_good : (part : Figures) → Figured b n part → (n ≡ 0 → ⊥) → (maybe_figures part).length ≤ 65535 → maybe_call cap b n ≡ placed cap b (maybe n)
-    maybe_good part k z l = maybe_known k.known z ∙ sized_in (maybe n) (subst (λ (p : Figures). (maybe_figures p).length ≤ 65535) k.figures l)
+    pub part_good : (f : Figures) → FiguredPart b n f → size_of b x ≤ 65535 → part_call ≡ placed cap b x
+    part_good f k l = part_sized f k ∙ sized_in x l
 
   module _ (k v : ℕ) where
     pub dict_unknown : 15 + length b ≤ k → dict_call cap b k v ≡ (refused 3 (0 ∷ []), b)

@@ -9,6 +9,7 @@ use Rattle.rows.specs.Found.{Refused, Place}
 use Rattle.book.specs.Plain.{Answer}
 use Rattle.book.specs.Nodes.{Node, structure, field_figures, node_figures, figures_from, size_of, tails_of, Parts, Known}
 use Rattle.book.specs.Makers.{placed, add_tails, kept, structure_placed, structure_call, unknown_at, unit_at}
+use Rattle.layout.specs.declared.row.Kind.TheVariants.{Structure}
 use Rattle.layout.specs.declared.row.TypeRow.{TypeRow}
 use Rattle.layout.specs.declared.row.FieldRow.{FieldRow}
 use Rattle.sheet.specs.declared.sheet.Sheet.{Sheet}
@@ -74,7 +75,7 @@ module _ (t : RowList TypeRow) (f f' : RowList FieldRow) (fs : List ℕ) (w : Wh
 
 -- the row of a structure whose field rows are laid
 abbrev pub row_for : List ℕ → ℕ → Figures → TypeRow
-row_for fs p whole = record { kind = 3; first = p; second = length fs; figures = whole }
+row_for fs p whole = record { kind = Structure; first = p; second = length fs; figures = whole }
 
 module _ (t : RowList TypeRow) (f f' : RowList FieldRow) (fs : List ℕ) (whole : Figures) (p : ℕ) (w : Whole t f) (s : Structured t f fs whole) (e : f'.cap ≡ f.cap)
     (d : Laid f.rows.now f.count f.cap fs 0 f'.rows.now f'.count p) where

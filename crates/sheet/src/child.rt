@@ -7,9 +7,9 @@ ghost use Rattle.layout.specs.Asked.{Shown};
 ghost use Rattle.book.specs.Questions.{child_of, key_of, value_of};
 ghost use Rattle.sheet.specs.Seen.{book_in, nodes_on};
 
+use crate::row::{Kind, TypeRow, place_of};
 use crate::sheet::Sheet;
 use grammar::error::Refusal;
-use layout::row::{ARRAY, DICT, MAYBE, TypeRow};
 
 impl<'a> Sheet<'a> {
     // The row of the number `n`; a blank one for Unit and the basic codes, which have none.
@@ -17,12 +17,9 @@ impl<'a> Sheet<'a> {
         ensures same { self.new ≡ self.old }
         ensures row { MatchResult result (λ x. Shown (nodes_on self.old) (fields_in self.old.fields) n x) (λ e. NotKnown (nodes_on self.old) n 0 e) }
     {
-        if n < 15 {
-            return Ok(TypeRow::BLANK);
-        }
-        match self.type_row(n as usize - 15) {
-            Some(row) => Ok(row),
-            None => Err(Refusal::Unknown(0)),
+        match place_of(n) {
+            Some(i) => self.type_row(i).ok_or(Refusal::Unknown(0)),
+            None => Ok(TypeRow::BLANK),
         }
     }
 
@@ -32,10 +29,9 @@ impl<'a> Sheet<'a> {
         ensures answer { outcome result ≡ child_of (book_in self.old) n }
     {
         let row = self.container(n)?;
-        if row.kind == ARRAY || row.kind == MAYBE {
-            Ok(row.first)
-        } else {
-            Err(Refusal::WrongKind)
+        match row.kind {
+            Kind::Array | Kind::Maybe => Ok(row.first),
+            _ => Err(Refusal::WrongKind),
         }
     }
 
@@ -45,10 +41,9 @@ impl<'a> Sheet<'a> {
         ensures answer { outcome result ≡ key_of (book_in self.old) n }
     {
         let pair = self.container(n)?;
-        if pair.kind == DICT {
-            Ok(pair.first)
-        } else {
-            Err(Refusal::WrongKind)
+        match pair.kind {
+            Kind::Dict => Ok(pair.first),
+            _ => Err(Refusal::WrongKind),
         }
     }
 
@@ -58,10 +53,9 @@ impl<'a> Sheet<'a> {
         ensures answer { outcome result ≡ value_of (book_in self.old) n }
     {
         let row = self.container(n)?;
-        if row.kind == DICT {
-            Ok(row.second)
-        } else {
-            Err(Refusal::WrongKind)
+        match row.kind {
+            Kind::Dict => Ok(row.second),
+            _ => Err(Refusal::WrongKind),
         }
     }
 }

@@ -2,12 +2,12 @@
 ghost use Rattle.std.specs.Prelude.{◌≡◌, [], ◌∷◌, MatchOption};
 ghost use Rattle.grammar.specs.Refusals.{outcome};
 ghost use Rattle.layout.specs.Tails.{tail_at};
-ghost use Rattle.book.specs.Questions.{len_of, get_of};
+ghost use Rattle.book.specs.Questions.{len_of, get_of, item_at};
 ghost use Rattle.sheet.specs.Seen.{book_in, tails_on};
 
+use crate::row::{FieldRow, Kind};
 use crate::sheet::Sheet;
 use grammar::error::Refusal;
-use layout::row::{FieldRow, STRUCTURE};
 
 impl<'a> Sheet<'a> {
     // How many fields a structure has.
@@ -16,10 +16,9 @@ impl<'a> Sheet<'a> {
         ensures answer { outcome result ≡ len_of (book_in self.old) n }
     {
         let row = self.container(n)?;
-        if row.kind == STRUCTURE {
-            Ok(row.second)
-        } else {
-            Err(Refusal::WrongKind)
+        match row.kind {
+            Kind::Structure => Ok(row.second),
+            _ => Err(Refusal::WrongKind),
         }
     }
 
@@ -29,20 +28,22 @@ impl<'a> Sheet<'a> {
         ensures answer { outcome result ≡ get_of (book_in self.old) n i }
     {
         let row = self.container(n)?;
-        if row.kind != STRUCTURE {
-            return Err(Refusal::WrongKind);
+        match row.kind {
+            Kind::Structure => Ok(self.item(row.first, i)),
+            _ => Err(Refusal::WrongKind),
         }
-        let mut next = row.first;
+    }
+
+    // The number at `i`, counted from 0, of the list that begins at the field row `first`; none past the end.
+    fn item(&mut self, first: u16, i: usize) -> Option<u16>
+        ensures same { self.new ≡ self.old }
+        ensures item { result ≡ item_at (tail_at (tails_on self.old) first) i }
+    {
+        let mut next = first;
         for _k in 0..i {
-            match self.numbered(next) {
-                Some(field) => next = field.next,
-                None => return Ok(None),
-            }
+            next = self.numbered(next)?.next;
         }
-        match self.numbered(next) {
-            Some(field) => Ok(Some(field.field)),
-            None => Ok(None),
-        }
+        Some(self.numbered(next)?.field)
     }
 
     // The field row with the number `n`, from 1; 0 has none.
@@ -50,10 +51,6 @@ impl<'a> Sheet<'a> {
         ensures same { self.new ≡ self.old }
         ensures row { MatchOption result (tail_at (tails_on self.old) n ≡ []) (λ x. tail_at (tails_on self.old) n ≡ x.field ∷ tail_at (tails_on self.old) x.next) }
     {
-        if n == 0 {
-            None
-        } else {
-            self.field_row(n as usize - 1)
-        }
+        self.field_row((n as usize).checked_sub(1)?)
     }
 }

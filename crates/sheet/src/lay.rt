@@ -8,33 +8,29 @@ ghost use Rattle.layout.specs.Kept.{nodes_of, tails_in};
 ghost use Rattle.layout.specs.Made.{Made};
 ghost use Rattle.layout.specs.Structured.{Whole, Structured};
 
+use crate::row::{FieldRow, Kind, TypeRow, number_at};
 use grammar::error::Refusal;
 use grammar::figures::Figures;
-use layout::row::{FieldRow, STRUCTURE, TypeRow};
 use rows::RowList;
 
 // Refuses the first number that is not below `known`.
-pub(crate) fn all_known(fs: &[u16], known: usize) -> Result<(), Refusal>
+pub(crate) fn all_known(fs: &[u16], known: u16) -> Result<(), Refusal>
     ensures { MatchResult result (λ _. length fs.now ≤ unknown_at known fs.now) (λ e. (e ≡ NoNumber (unknown_at known fs.now)) × (unknown_at known fs.now < length fs.now)) }
 {
-    for (i, f) in fs.iter().enumerate() {
-        if *f as usize >= known {
-            return Err(Refusal::Unknown(i));
-        }
+    match fs.iter().position(|f| *f >= known) {
+        Some(i) => Err(Refusal::Unknown(i)),
+        None => Ok(()),
     }
-    Ok(())
 }
 
 // Refuses the first Unit.
 pub(crate) fn no_unit(fs: &[u16]) -> Result<(), Refusal>
     ensures { MatchResult result (λ _. length fs.now ≤ unit_at fs.now) (λ e. (e ≡ NoPart (unit_at fs.now)) × (unit_at fs.now < length fs.now)) }
 {
-    for (i, f) in fs.iter().enumerate() {
-        if *f == 0 {
-            return Err(Refusal::UnitPart(i));
-        }
+    match fs.iter().position(|f| *f == 0) {
+        Some(i) => Err(Refusal::UnitPart(i)),
+        None => Ok(()),
     }
-    Ok(())
 }
 
 // Lays the tails of `fs`, the shortest first, and answers where the whole list stands; all of them or none.
@@ -46,9 +42,9 @@ fn lay(list: &mut RowList<FieldRow>, fs: &[u16]) -> Option<u16>
 {
     let start = list.len();
     let mut next = 0;
-    for i in (0..fs.len()).rev() {
+    for (i, field) in fs.iter().enumerate().rev() {
         let row = FieldRow {
-            field: fs[i],
+            field: *field,
             next,
             count: (fs.len() - i) as u16,
         };
@@ -80,12 +76,12 @@ pub(crate) fn file_structure(
         return Err(Refusal::NoRows);
     };
     match types.find_or_add(TypeRow {
-        kind: STRUCTURE,
+        kind: Kind::Structure,
         first,
         second: fs.len() as u16,
         figures,
     }) {
-        Some(i) => Ok(15 + i as u16),
+        Some(i) => Ok(number_at(i)),
         None => {
             fields.truncate(start, FieldRow::BLANK);
             Err(Refusal::NoRows)

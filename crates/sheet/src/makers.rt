@@ -6,27 +6,22 @@ ghost use Rattle.book.specs.Makers.{placed, array_call, maybe_call, dict_call, s
 ghost use Rattle.layout.specs.Kept.{Fit, types_in, fields_in, node_of};
 ghost use Rattle.layout.specs.Made.{with_tails};
 ghost use Rattle.book.specs.Plain.{array as array_of, maybe as maybe_of, dict as dict_of, structure as structure_of};
-ghost use Rattle.layout.specs.Figured.{Short, Long};
+ghost use Rattle.layout.specs.Figured.{Short, Long, FiguredPart, NotPart};
 ghost use Rattle.layout.specs.Structured.{AllParts, Structured};
 ghost use Rattle.sheet.specs.Seen.{nodes_on, tails_on, CalledOn, MadeOn};
 
-use crate::figures::{array_figures, dict_figures, structure_figures};
 use crate::lay::{all_known, file_structure, no_unit};
+use crate::row::{Kind, TypeRow, number_at};
 use crate::sheet::Sheet;
 use grammar::error::Refusal;
 use grammar::figures::Figures;
-use layout::figures::{maybe_figures, with_field};
-use layout::row::{ARRAY, DICT, MAYBE, TypeRow};
+use layout::figures::{array_figures, dict_figures, maybe_figures, structure_figures, with_field};
 
 // The figures of no fields.
 const NO_FIELDS: Figures = Figures {
-    length: 0,
-    structures: 0,
-    arrays: 0,
     dbus: 8,
-    gvariant: 0,
     fixed: true,
-    maybe: false,
+    ..Figures::NONE
 };
 
 impl<'a> Sheet<'a> {
@@ -37,9 +32,21 @@ impl<'a> Sheet<'a> {
         ensures { MadeOn self.old self.new (outcome result) (with_tails (tails_on self.old) (placed self.old.types.cap (nodes_on self.old) (node_of (fields_in self.old.fields) row))) }
     {
         match self.types.find_or_add(row) {
-            Some(i) => Ok(15 + i as u16),
+            Some(i) => Ok(number_at(i)),
             None => Err(Refusal::NoRows),
         }
+    }
+
+    // The figures of the number `n`, which is to be a part.
+    fn part(&mut self, n: u16) -> Result<Figures, Refusal>
+        ensures same { self.new ≡ self.old }
+        ensures part { MatchResult result (λ f. FiguredPart (nodes_on self.old) n f) (λ e. NotPart (nodes_on self.old) n e) }
+    {
+        let figures = self.figures(n, 0)?;
+        if n == 0 {
+            return Err(Refusal::UnitPart(0));
+        }
+        Ok(figures)
     }
 
     // The array of the number `n`.
@@ -47,16 +54,13 @@ impl<'a> Sheet<'a> {
         ensures called { CalledOn self.old self.new (outcome result) (array_of n) }
         ensures made { MadeOn self.old self.new (outcome result) (with_tails (tails_on self.old) (array_call self.old.types.cap (nodes_on self.old) n)) }
     {
-        let part = self.figures(n, 0)?;
-        if n == 0 {
-            return Err(Refusal::UnitPart(0));
-        }
+        let part = self.part(n)?;
         let figures = array_figures(part)?;
         self.enter(TypeRow {
-            kind: ARRAY,
+            kind: Kind::Array,
             first: n,
-            second: 0,
             figures,
+            ..TypeRow::BLANK
         })
     }
 
@@ -65,16 +69,13 @@ impl<'a> Sheet<'a> {
         ensures called { CalledOn self.old self.new (outcome result) (maybe_of n) }
         ensures made { MadeOn self.old self.new (outcome result) (with_tails (tails_on self.old) (maybe_call self.old.types.cap (nodes_on self.old) n)) }
     {
-        let part = self.figures(n, 0)?;
-        if n == 0 {
-            return Err(Refusal::UnitPart(0));
-        }
+        let part = self.part(n)?;
         let figures = maybe_figures(part)?;
         self.enter(TypeRow {
-            kind: MAYBE,
+            kind: Kind::Maybe,
             first: n,
-            second: 0,
             figures,
+            ..TypeRow::BLANK
         })
     }
 
@@ -93,7 +94,7 @@ impl<'a> Sheet<'a> {
         }
         let figures = dict_figures(key, value)?;
         self.enter(TypeRow {
-            kind: DICT,
+            kind: Kind::Dict,
             first: k,
             second: v,
             figures,
@@ -101,11 +102,11 @@ impl<'a> Sheet<'a> {
     }
 
     // The number of the next new container; those below it are known.
-    fn next_number(&mut self) -> usize
+    fn next_number(&mut self) -> u16
         ensures same { self.new ≡ self.old }
         ensures number { result ≡ 15 + length (nodes_on self.old) }
     {
-        15 + self.counts().0
+        number_at(self.counts().0)
     }
 
     // The figures of the fields `fs` in a row.
@@ -115,8 +116,8 @@ impl<'a> Sheet<'a> {
         ensures figures { MatchResult result (λ f. Short (field_figures (figures_from [] (nodes_on self.old)) fs.now) f) (λ e. Long (field_figures (figures_from [] (nodes_on self.old)) fs.now) e) }
     {
         let mut all = NO_FIELDS;
-        for i in (0..fs.len()).rev() {
-            let field = self.figures(fs[i], i)?;
+        for (i, f) in fs.iter().enumerate().rev() {
+            let field = self.figures(*f, i)?;
             all = with_field(field, all)?;
         }
         Ok(all)

@@ -1,7 +1,7 @@
 // Builds the shapes of a wage run from their parts, and prints the account: each shape's number and figures.
 #![tactic(auto)]
 
-use answers::{Answer, Found, Listed};
+use answers::{Answer, Found};
 use grammar::error::Refusal;
 use grammar::figures::Figures;
 use history::account::figures_of;
@@ -29,8 +29,8 @@ struct Entry {
 
 impl fmt::Display for Entry {
     fn fmt<W: fmt::Write>(&self, f: &mut fmt::Formatter<W>) -> fmt::Result {
-        let number = self.number;
-        write!(f, "{number}, {}", Listed(self.figures))
+        let Entry { number, figures } = self;
+        write!(f, "{number}, {figures}")
     }
 }
 

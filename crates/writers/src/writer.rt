@@ -1,32 +1,20 @@
-ghost use Rattle.std.specs.Prelude.{◌≡◌, ℕ, ◌+◌, ◌-◌, ◌<◌, ◌≤◌, Bool, true, false, List, [], ◌∷◌, ◌++◌, length, take, drop, if◌then◌else◌};
-ghost use Rattle.writers.specs.Rule.{room, next};
+ghost use Rattle.std.specs.Prelude.{◌≡◌, [], ◌∷◌, if◌then◌else◌};
+ghost use Rattle.writers.specs.State.{State, Took, buffer_state, text_state};
 
 // What a printer offers bytes to, one after another; each is taken or declined.
 pub trait Writer {
-    // The bytes that it has taken, in order.
-    ghost taken: { Self → List ℕ };
+    ghost state: { Self → State };
 
-    // What it was made with, as a decision on its contents and the byte offered.
-    ghost rule: { Self → List ℕ → ℕ → Bool };
-
-    // What lies past the bytes that it has taken; each byte taken covers one.
-    ghost rest: { Self → List ℕ };
-
-    // The place that it writes to, which stays the same.
-    ghost site: { Self → ℕ };
-
-    // Whether the byte is taken: then it is appended, and otherwise nothing is changed.
+    // Whether the byte is taken, as its rule decides; where it is declined, nothing is taken.
     fn offer(&mut self, b: u8) -> bool
-        ensures answer { result ≡ rule self.old (taken self.old) b }
-        ensures taken { taken self.new ≡ (if result then taken self.old ++ b ∷ [] else taken self.old) }
-        ensures rule { rule self.new ≡ rule self.old }
-        ensures rest { rest self.new ≡ (if result then drop 1 (rest self.old) else rest self.old) }
-        ensures site { site self.new ≡ site self.old };
+        ensures answer { result ≡ (state self.old).rule (state self.old).taken b }
+        ensures took { Took (state self.old) (state self.new) (if result then b ∷ [] else []) };
 }
 
 // Takes bytes into a buffer while it has free places.
 #[derive(Drop)]
 pub struct BufferWriter<'a> {
+    // The whole buffer: the bytes taken are its front.
     buffer: &'a mut [u8],
     count: usize,
 }
@@ -42,28 +30,23 @@ impl<'a> BufferWriter<'a> {
 }
 
 impl<'a> Writer for BufferWriter<'a> {
-    ghost taken = { λ w. take w.count w.buffer.now };
-
-    ghost rule = { λ w. room (length w.buffer.now) };
-
-    ghost rest = { λ w. drop w.count w.buffer.now };
-
-    ghost site = { λ w. w.buffer.ghost_name };
+    ghost state = { λ w. buffer_state w.buffer.now w.count w.buffer.ghost_name };
 
     fn offer(&mut self, b: u8) -> bool {
-        if self.count < self.buffer.len() {
-            self.buffer[self.count] = b;
-            self.count += 1;
-            true
-        } else {
-            false
+        if self.count >= self.buffer.len() {
+            return false;
         }
+        // By index, since nothing is said of what a slice holds after `get_mut`.
+        self.buffer[self.count] = b;
+        self.count += 1;
+        true
     }
 }
 
 // Takes only the next byte of a text.
 #[derive(Drop)]
 pub struct MatchingWriter<'a> {
+    // The whole text: the bytes taken are its front.
     text: &'a [u8],
     count: usize,
 }
@@ -78,20 +61,13 @@ impl<'a> MatchingWriter<'a> {
 }
 
 impl<'a> Writer for MatchingWriter<'a> {
-    ghost taken = { λ w. take w.count w.text.now };
-
-    ghost rule = { λ w. next w.text.now };
-
-    ghost rest = { λ w. drop w.count w.text.now };
-
-    ghost site = { λ w. 0 };
+    ghost state = { λ w. text_state w.text.now w.count };
 
     fn offer(&mut self, b: u8) -> bool {
-        if self.count < self.text.len() && self.text[self.count] == b {
-            self.count += 1;
-            true
-        } else {
-            false
+        if self.text.get(self.count) != Some(&b) {
+            return false;
         }
+        self.count += 1;
+        true
     }
 }

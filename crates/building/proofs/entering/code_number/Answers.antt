@@ -1,12 +1,9 @@
-use Rattle.std.proofs.Common.{arith, below_more}
-use Rattle.building.proofs.Codes.{code_at, no_code}
+use Rattle.std.proofs.Common.{sym, ◌∙◌}
+use Rattle.building.proofs.Codes.{found_code, no_code_found}
 use Rattle.building.proofs.entering.code_number.Goals as goal
 
-pub loop-i-preserved : goal.loop-i-preserved
-loop-i-preserved c = below_more _ _ c.loop-i.invariant c.if-c-b.false
-
-pub returns-then-c-b : goal.returns-then-c-b
-returns-then-c-b c = λ h. code_at c.args.b c.loop-i.i (omega arith) c.if-c-b.true
+pub returns-in_err-i : goal.returns-in_err-i
+returns-in_err-i c = rw c.from_residual.ensures (no_code_found _ (sym c.place_of.ensures ∙ c.in_err-i.was))
 
 pub returns : goal.returns
-returns c = λ h. absurd (no_code c.args.b c.loop-i.i (omega arith) c.loop-i.invariant h)
+returns c = found_code _ _ (sym c.place_of.ensures ∙ c.in_ok-i.was)

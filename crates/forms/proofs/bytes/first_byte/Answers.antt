@@ -1,10 +1,8 @@
-use Rattle.std.proofs.Common.{◌-◌, get_or, sym, ap, ◌∙◌, arith}
-use Rattle.grammar.specs.Shape.{Text, basic_codes}
-use Rattle.forms.proofs.At.{at_last}
-use Rattle.forms.proofs.Texts.{code_text}
+use Rattle.std.proofs.Common.{◌∙◌, arith}
+use Rattle.grammar.specs.Shape.{basic_codes}
+use Rattle.forms.proofs.At.{at_copied}
+use Rattle.forms.proofs.Texts.{code_byte}
 use Rattle.forms.proofs.bytes.first_byte.Goals as goal
 
-pub returns-else-p-gt0 : goal.returns-else-p-gt0
-returns-else-p-gt0 c =
-    at_last (get_or basic_codes (c.args.n - 1) 0) c.args.p (omega (arith, c.if-p-gt0.false.1))
-    ∙ ap (λ (w : Text). get_or w c.args.p 0) (sym (code_text c.args.n c.if-p-gt0.false.0 c.requires))
+pub returns : goal.returns
+returns c = c.copied.ensures ∙ at_copied basic_codes c.in_ok-i.i c.get.result c.get.ensures.lookup ∙ code_byte c.args.n c.in_ok-i.i c.args.p (omega arith) c.in_ok-i.ensures

@@ -1,18 +1,16 @@
-use Rattle.std.proofs.Common.{length, sym, ap, arith}
+use Rattle.std.proofs.Common.{◌∙◌}
 use Rattle.sheet.specs.Seen.{book_in}
-use Rattle.forms.proofs.Texts.{book_long, no_text, row_long}
+use Rattle.forms.proofs.Texts.{row_at, no_row, row_in, row_long}
+use Rattle.forms.proofs.Known.{long_in, no_length}
 use Rattle.forms.proofs.bytes.length_of.Goals as goal
 
-pub returns-in-Some : goal.returns-in-Some
-returns-in-Some c = record {
-  same = c.type_row.ensures.same;
-  long = row_long c.args.sheet.now c.args.n c.if-n-lt15.false c.in-Some.row c.in-Some.ensures.row;
-}
-
-pub returns-in-None : goal.returns-in-None
-returns-in-None c =
+pub returns-in_err-row-clause-long : goal.returns-in_err-row-clause-long
+returns-in_err-row-clause-long c =
     let s = c.args.sheet.now in
-    record {
-      same = c.type_row.ensures.same;
-      long = sym (ap length (no_text (book_in s) c.args.n (omega (arith, c.in-None.ensures.row, book_long s))));
-    }
+    c.from_residual.ensures ∙ no_length (book_in s) c.args.n (no_row s c.in-Some.ensures c.in_err-row.ensures.row)
+
+pub returns-clause-long : goal.returns-clause-long
+returns-clause-long c =
+    let s = c.args.sheet.now in
+    let r = row_at s c.in-Some.ensures c.in_ok-row.ensures.row in
+    long_in (book_in s) c.args.n c.in_ok-row.row.figures.length (row_in s r) (row_long s r)

@@ -1,29 +1,21 @@
-use Rattle.std.proofs.Common.{[], ◌∷◌, ◌++◌, refl, arith}
-use Rattle.book.specs.Plain.{text_of}
-use Rattle.book.specs.Nodes.{dict}
+use Rattle.std.proofs.Common.{arith}
+use Rattle.layout.specs.declared.row.Kind.TheVariants.{Array, Dict}
 use Rattle.sheet.specs.Seen.{book_in}
-use Rattle.forms.specs.Steps.{node_in}
-use Rattle.forms.proofs.Leading.{node_by_is, node_other, leads_as, leads_two}
+use Rattle.forms.proofs.Leading.{leads_by, leads_other, leads_pair}
 use Rattle.forms.proofs.bytes.row_step.Goals as goal
 
-pub returns-in-1 : goal.returns-in-1
-returns-in-1 c =
+pub returns-in-Array-default-clause-leads : goal.returns-in-Array-default-clause-leads
+returns-in-Array-default-clause-leads c =
     let s = c.args.sheet.now in
-    record { same = refl; leads = leads_as (book_in s) (node_in s c.args.row) _ c.args.p c.child_step.result (node_by_is s c.args.row 1 c.in-1.is) (c.child_step.ensures (book_in s)) }
+    leads_by s c.args.row Array c.args.p c.child_step.result c.in-Array-default.is-0 (c.child_step.ensures (book_in s))
 
-pub returns-in_default-p : goal.returns-in_default-p
-returns-in_default-p c =
+pub returns-in-Dict-default-clause-leads : goal.returns-in-Dict-default-clause-leads
+returns-in-Dict-default-clause-leads c =
     let s = c.args.sheet.now in
-    record {
-      same = c.pair_step.ensures.same;
-      leads = leads_as (book_in s) (node_in s c.args.row) (dict c.args.row.first c.args.row.second) c.args.p c.pair_step.result (node_by_is s c.args.row 2 c.in-2.is)
-          (leads_two (book_in s) 97 123 c.args.p (text_of (book_in s) c.args.row.first ++ (text_of (book_in s) c.args.row.second ++ 125 ∷ [])) (c.args.row.first ∷ c.args.row.second ∷ []) c.pair_step.result (omega arith) c.pair_step.ensures.leads);
-    }
+    leads_by s c.args.row Dict c.args.p c.pair_step.result c.in-Dict-default.is-0
+    (leads_pair (book_in s) c.args.p c.args.row.first c.args.row.second c.pair_step.result (omega (arith, c.in-Dict-default.is-1)) c.pair_step.ensures.leads)
 
-pub returns-in_default : goal.returns-in_default
-returns-in_default c =
+pub returns-in_default-clause-leads : goal.returns-in_default-clause-leads
+returns-in_default-clause-leads c =
     let s = c.args.sheet.now in
-    record {
-      same = refl;
-      leads = leads_as (book_in s) (node_in s c.args.row) _ c.args.p c.child_step-in_default.result (node_other s c.args.row (λ e. omega arith) (λ e. omega arith) (λ e. omega arith)) (c.child_step-in_default.ensures (book_in s));
-    }
+    leads_other s c.args.row c.args.row.kind c.args.p c.child_step-in_default.result c.in_default.not-Array-0 c.in_default.not-Dict-0 c.in_default.not-Structure-0 (c.child_step-in_default.ensures (book_in s))

@@ -1,16 +1,15 @@
-use Rattle.std.proofs.Common.{sym, ◌∙◌, arith}
+use Rattle.std.proofs.Common.{arith}
 use Rattle.book.specs.Plain.{text_of}
 use Rattle.sheet.specs.Seen.{book_in}
-use Rattle.forms.proofs.Texts.{length_as}
-use Rattle.forms.proofs.Bared.{whole_span}
+use Rattle.forms.specs.Spans.{Covers}
+use Rattle.forms.proofs.Known.{refused_as}
+use Rattle.forms.proofs.Bared.{whole_places}
 use Rattle.forms.proofs.spans.whole.Goals as goal
 
-pub returns : goal.returns
-returns c =
-    let s = c.args.sheet.now in
-    let e = c.is_known.ensures.same in
-    let p = whole_span (text_of (book_in s) c.args.n) c.length_of.result (length_as s c.is_known.new.sheet e c.args.n c.length_of.result c.length_of.ensures.long) (omega (arith, c.length_of.type_inv)) in
-    record {
-      same = c.length_of.ensures.same ∙ e;
-      covers = record { known = sym c.is_known.ensures.known ∙ c.if-not-is_known.false; inside = p.0; bytes = p.1 };
-    }
+pub returns-in_err-length-clause-covers : goal.returns-in_err-length-clause-covers
+returns-in_err-length-clause-covers c =
+    let b = book_in c.args.sheet.now in
+    refused_as c.args.sheet.now c.args.n (Covers b c.args.n (text_of b c.args.n)) c.from_residual.result c.in_err-length.field-0.0 c.from_residual.ensures c.in_err-length.ensures.answer
+
+pub returns-clause-covers : goal.returns-clause-covers
+returns-clause-covers c = whole_places c.args.sheet.now c.args.n c.in_ok-length.length c.in_ok-length.ensures.answer (omega arith)

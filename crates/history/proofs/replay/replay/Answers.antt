@@ -1,29 +1,23 @@
-use Rattle.std.proofs.Common.{length, refl, ◌∙◌, arith}
+use Rattle.std.proofs.Common.{length, sym, subst, ◌∙◌}
 use Rattle.history.specs.Calls.{calls_of}
-use Rattle.history.specs.History.{book_after}
-use Rattle.history.proofs.Theorem.{answers_kept, book_is_after, filed, filed_as, book_as, accounted_as, written_apart}
+use Rattle.history.specs.History.{Filed}
+use Rattle.history.proofs.Theorem.{answers_kept, filed, written}
 use Rattle.history.proofs.replay.replay.Goals as goal
 
 pub returns : goal.returns
 returns g c =
-    let T = length c.args.types.now in
-    let F = length c.args.fields.now in
+    let types = length c.args.types.now in
+    let fields = length c.args.fields.now in
     let cs = calls_of c.args.calls.now in
-    let s₀ = c.open-sheet.result in
-    let s = c.make_all.new.sheet in
-    let s₁ = c.account_of-accounts.new.sheet in
-    let s₂ = c.account_of-accounts-2.new.sheet in
-    let o = c.open-sheet.ensures in
-    let r = c.make_all.ensures in
-    let e = c.account_of-accounts.ensures.same in
-    let k = book_is_after T F cs s₀.types s₀.fields s.types s.fields _ _ o r in
-    let x = accounted_as (book_as (book_after T F cs) s s refl k) c.account_of-accounts.ensures.accounted in
-    let y = accounted_as (book_as (book_after T F cs) s s₁ e k) c.account_of-accounts-2.ensures.accounted in
+    let f = filed types fields cs c.open-sheet.result c.make_all.new.sheet _ _ c.open-sheet.ensures c.make_all.ensures in
+    let e = c.account_of-first.ensures.same in
+    let x = rw f.book at c.account_of-first.ensures.accounted in
+    let y = rw (e, f.book) at c.account_of-second.ensures.accounted in
     record {
-      answers = answers_kept T F cs s₀.types s₀.fields s.types s.fields _ _ o r;
-      filed = filed_as T F cs s s₂ (c.account_of-accounts-2.ensures.same ∙ e) (filed T F cs s₀.types s₀.fields s.types s.fields _ _ o r (omega arith));
+      answers = answers_kept types fields cs c.open-sheet.result c.make_all.new.sheet _ _ c.open-sheet.ensures c.make_all.ensures;
+      filed = subst (Filed types fields cs) (sym (c.account_of-second.ensures.same ∙ e)) f;
       first = x;
       second = y;
-      written = written_apart T F cs c.args.m c.args.n _ _ _ _ _ _ _ _ x.answer x.taken y.answer y.taken;
-      still = (c.account_of-accounts.ensures.still, c.account_of-accounts-2.ensures.still);
+      written = written types fields cs c.args.m c.args.n _ _ _ _ _ _ x y;
+      still = (c.account_of-first.ensures.still, c.account_of-second.ensures.still);
     }

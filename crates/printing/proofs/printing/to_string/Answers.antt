@@ -1,41 +1,9 @@
-use Rattle.std.proofs.Common.{◌≡◌, length, Err, ap, ◌∙◌}
-use Rattle.std.proofs.lemmas.Result.{err_from_is_err_and}
-use Rattle.grammar.specs.declared.error.Refusal.TheVariants.{Unknown}
-use Rattle.grammar.specs.Refusals.{outcome}
-use Rattle.book.specs.Plain.{text_of}
+use Rattle.std.proofs.Common.{ap, arith}
+use Rattle.std.proofs.lemmas.Grind.{common_steps}
 use Rattle.sheet.specs.Seen.{book_in}
-use Rattle.forms.specs.Spans.{bytes_in}
-use Rattle.forms.proofs.Texts.{bytes_as}
-use Rattle.printing.proofs.Asked.{none_filled, into_known, into_unknown, after_as}
+use Rattle.printing.specs.Forms.{into_of}
 use Rattle.printing.proofs.printing.to_string.Goals as goal
 
-pub returns-in_err-span : goal.returns-in_err-span
-returns-in_err-span c =
-    let b = book_in c.args.sheet.now in
-    let w = text_of (book_in c.args.sheet.now) c.args.n in
-    let u = c.in_err-span.ensures.covers in
-    let r = c.from_residual.result in
-    let p = err_from_is_err_and c.from_residual.result c.from_residual.ensures.1 in
-    let e : c.from_residual.result ≡ Err (Unknown 0) = p.1 ∙ ap Err (p.2 ∙ u.refusal) in
-    record {
-      same = c.whole.ensures.same;
-      answer = into_unknown b c.args.n w (length c.args.buffer.now) r e u.unknown;
-      after = none_filled r e w c.args.buffer.now;
-    }
-
 pub returns : goal.returns
-returns c =
-    let s = c.args.sheet.now in
-    let b = book_in c.args.sheet.now in
-    let w = text_of (book_in c.args.sheet.now) c.args.n in
-    let e = c.whole.ensures.same in
-    let u = c.in_ok-span.ensures.covers in
-    let o = c.fill.ensures in
-    let x = c.in_ok-span.span in
-    let bs = bytes_in x (text_of (book_in c.whole.new.sheet) c.args.n) in
-    let f = bytes_as s c.whole.new.sheet e c.args.n x w u.bytes in
-    record {
-      same = o.same ∙ e;
-      answer = into_known b c.args.n w (length c.args.buffer.now) bs (outcome c.fill.result) u.known f o.answer;
-      after = after_as (outcome c.fill.result) bs w c.args.buffer.now c.fill.new.buffer f o.after;
-    }
+unfolding into_of
+returns c = let e = ap book_in c.whole.ensures.same in grind (arith, common_steps)

@@ -1,6 +1,6 @@
-use Rattle.std.proofs.Common.{◌≡◌, ℕ, ◌+◌, ◌-◌, ◌*◌, ◌≤◌, List, [], ◌∷◌, length, drop}
-use Rattle.grammar.specs.Scan.{Frame, one, others, run}
-use Rattle.reader.proofs.Joins.{Entered}
+use Rattle.std.proofs.Common.{◌≡◌, ◌+◌, ◌-◌, ◌*◌, ◌≤◌, [], ◌∷◌, length}
+use Rattle.grammar.specs.Scan.{others}
+use Rattle.reader.proofs.Joins.{Behind, Entered}
 use Rattle.reader.proofs.reading.+many_parse_signature.Given as goal
 
 abbrev pub decreases-many : goal.decreases-many
@@ -20,7 +20,7 @@ decreases-many-loop-cursor l = length l.cursor.text.now - l.cursor.at
 abbrev pub invariant-parse_signature-loop-b : goal.invariant-parse_signature-loop-b
 invariant-parse_signature-loop-b l =
     (l.cursor.text.now ≡ l.initial.cursor.text.now) × (l.initial.cursor.at ≤ l.cursor.at)
-    × ((s a : ℕ) (k : List Frame) → run (one s a ∷ k) (drop l.initial.cursor.at l.initial.cursor.text.now) ≡ run (one s a ∷ k) (drop l.cursor.at l.initial.cursor.text.now))
+    × Behind l.initial.cursor.text.now l.initial.cursor.at l.cursor.at
 
 abbrev pub decreases-parse_signature-loop-b : goal.decreases-parse_signature-loop-b
 decreases-parse_signature-loop-b l = length l.cursor.text.now - l.cursor.at

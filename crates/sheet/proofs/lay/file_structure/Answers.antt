@@ -18,7 +18,7 @@ returns-in-Some-find_or_add c =
     let d = laid_as _ f c.args.fs.now 0 _ _ _ same c.in-Some.ensures.laid in
     let e = cap_was c.lay.new.list c.len-start.new.self f c.lay.ensures.cap same in
     record {
-      made = made_filed t f c.lay.new.list c.args.fs.now c.args.figures c.in-Some.first c.requires.whole c.requires.structure e d c.find_or_add.new.self c.find_or_add.ensures.cap c.in-Some-find_or_add.i c.in-Some-find_or_add.ensures.place;
+      made = rw c.number_at.ensures (made_filed t f c.lay.new.list c.args.fs.now c.args.figures c.in-Some.first c.requires.whole c.requires.structure e d c.find_or_add.new.self c.find_or_add.ensures.cap c.in-Some-find_or_add.i c.in-Some-find_or_add.ensures.place);
       whole = whole_filed t f c.lay.new.list c.args.fs.now c.args.figures c.in-Some.first c.requires.whole c.requires.structure e d c.find_or_add.new.self c.find_or_add.ensures.cap c.in-Some-find_or_add.i c.in-Some-find_or_add.ensures.place;
     }
 

@@ -1,17 +1,20 @@
-use Rattle.std.proofs.Common.{◌≡◌, ap, arith}
+use Rattle.std.proofs.Common.{ap, sym, ◌∙◌, rules}
+use borrow.Author.Tests.{tests}
+use Rattle.std.proofs.lemmas.Iterator.{YieldsList-from_slice}
+use Rattle.std.proofs.lemmas.Iterator.Search.{position_from_yields_List}
 use Rattle.grammar.specs.declared.error.Refusal.TheVariants.{UnitPart}
-use Rattle.book.specs.Makers.{unit_at}
-use Rattle.layout.proofs.Firsts.{unit_step, unit_here, unit_end}
+use Rattle.layout.proofs.Firsts.{is_unit, unit_first, first_found, none_found}
 use Rattle.sheet.proofs.lay.no_unit.Goals as goal
 
-pub returns-then-f-eq0 : goal.returns-then-f-eq0
-returns-then-f-eq0 c =
-    let h = unit_here c.args.fs.now c.loop-i.i c.loop-i-test.true c.if-f-eq0.true in
-    let e : c.loop-i.i ≡ unit_at c.args.fs.now = omega arith in
-    (ap UnitPart e, omega arith)
+pub returns-in-Some : goal.returns-in-Some
+returns-in-Some c =
+    let fs = c.args.fs.now in
+    let e = position_from_yields_List is_unit _ _ _ c.position.ensures.ran (YieldsList-from_slice fs c.iter.ensures.rest) (λ x b q h. search (rules, tests)) in
+    let p = first_found is_unit fs c.in-Some.i (unit_first fs) (sym c.in-Some.is ∙ e) in
+    (ap UnitPart p.0, p.1)
 
-pub loop-i-preserved : goal.loop-i-preserved
-loop-i-preserved c = omega (arith, unit_step c.args.fs.now c.loop-i.i c.loop-i-test.true c.if-f-eq0.false)
-
-pub returns : goal.returns
-returns c = omega (arith, unit_end c.args.fs.now c.loop-i.i c.loop-i-test.false)
+pub returns-in-None : goal.returns-in-None
+returns-in-None c =
+    let fs = c.args.fs.now in
+    let e = position_from_yields_List is_unit _ _ _ c.position.ensures.ran (YieldsList-from_slice fs c.iter.ensures.rest) (λ x b q h. search (rules, tests)) in
+    none_found is_unit fs (unit_first fs) (sym c.in-None.is ∙ e)

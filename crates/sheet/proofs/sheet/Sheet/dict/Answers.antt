@@ -1,6 +1,6 @@
 use Rattle.std.proofs.Common.{[], ◌∷◌, refl, ◌∙◌}
-use Rattle.std.proofs.lemmas.Result.{err_from_is_err_and}
 use Rattle.book.specs.Nodes.{dict}
+use Rattle.sheet.proofs.Shown.{exit_outcome}
 use Rattle.layout.specs.Kept.{nodes_of}
 use Rattle.sheet.proofs.Makes.{known_bounded, fit_dict, fit_as, figured_as, unknown_as, made_as, made_still, dict_unknown, dict_unknown_1, dict_unit, dict_unit_1, dict_long, dict_good}
 use Rattle.sheet.proofs.Texts.{called_dict}
@@ -9,21 +9,19 @@ use Rattle.sheet.proofs.sheet.Sheet.dict.Goals as goal
 pub returns-in_err-key : goal.returns-in_err-key
 returns-in_err-key c =
     let s = c.args.self.now in
-    let p = err_from_is_err_and c.from_residual.result c.from_residual.ensures.1 in
     let u = c.in_err-key.ensures.figures in
     let m = made_still s c.figures.new.self 3 (0 ∷ []) _ c.figures.ensures.same (dict_unknown s.types.cap (nodes_of s.types s.fields) c.args.k c.args.v u.unknown) in
-    rw (p.1, p.2, u.refusal) (record { called = called_dict s c.figures.new.self _ c.args.k c.args.v m; made = m })
+    rw (exit_outcome _ _ c.from_residual.ensures.1, u.refusal) (record { called = called_dict s c.figures.new.self _ c.args.k c.args.v m; made = m })
 
 pub returns-in_err-value : goal.returns-in_err-value
 returns-in_err-value c =
     let s = c.args.self.now in
-    let p = err_from_is_err_and c.from_residual-in_err-value.result c.from_residual-in_err-value.ensures.1 in
     let u = unknown_as s _ c.args.v 1 _ c.figures.ensures.same c.in_err-value.ensures.figures in
     let m =
     made_still s c.figures-2.new.self 3 (1 ∷ []) _ (c.figures-2.ensures.same ∙ c.figures.ensures.same)
     (dict_unknown_1 s.types.cap (nodes_of s.types s.fields) c.args.k c.args.v c.in_ok-key.ensures.figures.known u.unknown)
     in
-    rw (p.1, p.2, u.refusal) (record { called = called_dict s c.figures-2.new.self _ c.args.k c.args.v m; made = m })
+    rw (exit_outcome _ _ c.from_residual-in_err-value.ensures.1, u.refusal) (record { called = called_dict s c.figures-2.new.self _ c.args.k c.args.v m; made = m })
 
 pub returns-then-k-eq0 : goal.returns-then-k-eq0
 returns-then-k-eq0 c =
@@ -47,41 +45,36 @@ returns-then-v-eq0 c =
     in
     record { called = called_dict s c.figures-2.new.self _ c.args.k c.args.v m; made = m }
 
-pub dict_figures-requires : goal.dict_figures-requires
-dict_figures-requires c = record {
-  key = known_bounded _ _ _ c.in_ok-key.ensures.figures;
-  value = known_bounded _ _ _ c.in_ok-value.ensures.figures;
-}
-
 pub returns-in_err-figures : goal.returns-in_err-figures
 returns-in_err-figures c =
     let s = c.args.self.now in
     let e = c.figures.ensures.same in
-    let p = err_from_is_err_and c.from_residual-in_err-figures.result c.from_residual-in_err-figures.ensures.1 in
     let u = c.in_err-figures.ensures in
     let m =
     made_still s c.figures-2.new.self 7 [] _ (c.figures-2.ensures.same ∙ e)
     (dict_long s.types.cap (nodes_of s.types s.fields) c.args.k c.args.v _ _ c.in_ok-key.ensures.figures (figured_as s _ c.args.v _ e c.in_ok-value.ensures.figures) c.if-k-eq0.false c.if-v-eq0.false u.long)
     in
-    rw (p.1, p.2, u.refusal) (record { called = called_dict s c.figures-2.new.self _ c.args.k c.args.v m; made = m })
+    rw (exit_outcome _ _ c.from_residual-in_err-figures.ensures.1, u.refusal) (record { called = called_dict s c.figures-2.new.self _ c.args.k c.args.v m; made = m })
 
 pub enter-requires : goal.enter-requires
 enter-requires c =
+    let w = c.in_ok-figures.ensures (known_bounded _ _ _ c.in_ok-key.ensures.figures) (known_bounded _ _ _ c.in_ok-value.ensures.figures) in
     let s = c.args.self.now in
     let e = c.figures.ensures.same in
     record {
       fit = fit_as s _ _ (c.figures-2.ensures.same ∙ e)
-          (fit_dict s.types s.fields c.args.k c.args.v _ _ _ c.in_ok-key.ensures.figures (figured_as s _ c.args.v _ e c.in_ok-value.ensures.figures) c.if-k-eq0.false c.if-v-eq0.false c.in_ok-figures.ensures);
+          (fit_dict s.types s.fields c.args.k c.args.v _ _ _ c.in_ok-key.ensures.figures (figured_as s _ c.args.v _ e c.in_ok-value.ensures.figures) c.if-k-eq0.false c.if-v-eq0.false w);
       plain = refl;
     }
 
 pub returns : goal.returns
 returns c =
+    let w = c.in_ok-figures.ensures (known_bounded _ _ _ c.in_ok-key.ensures.figures) (known_bounded _ _ _ c.in_ok-value.ensures.figures) in
     let s = c.args.self.now in
     let t = c.enter.new.self in
     let e = c.figures.ensures.same in
     let m =
     made_as s c.figures-2.new.self t.types t.fields _ (dict c.args.k c.args.v) _ (c.figures-2.ensures.same ∙ e)
-    (dict_good s.types.cap (nodes_of s.types s.fields) c.args.k c.args.v _ _ c.in_ok-key.ensures.figures (figured_as s _ c.args.v _ e c.in_ok-value.ensures.figures) c.if-k-eq0.false c.if-v-eq0.false c.in_ok-figures.ensures.short) c.enter.ensures
+    (dict_good s.types.cap (nodes_of s.types s.fields) c.args.k c.args.v _ _ c.in_ok-key.ensures.figures (figured_as s _ c.args.v _ e c.in_ok-value.ensures.figures) c.if-k-eq0.false c.if-v-eq0.false w.short) c.enter.ensures
     in
     record { called = called_dict s t _ c.args.k c.args.v m; made = m }

@@ -21,7 +21,7 @@ invariant_of-self c =
 pub returns-in-Some : goal.returns-in-Some
 returns-in-Some c =
     let s = c.args.self.now in
-    made_some s.types c.find_or_add.new.self s.fields c.args.row s.types_within s.types_usable (out s.good) c.requires.fit _ c.find_or_add.ensures.cap c.in-Some.ensures.place
+    rw c.number_at.ensures (made_some s.types c.find_or_add.new.self s.fields c.args.row s.types_within s.types_usable (out s.good) c.requires.fit _ c.find_or_add.ensures.cap c.in-Some.ensures.place)
 
 pub returns-in-None : goal.returns-in-None
 returns-in-None c =

@@ -20,7 +20,7 @@ returns-in-Ok c =
       | else-types-gt1-via-else-types-gt1 w ↦ inr w.if-types-gt1.false
     ] in
     let e = c.in_ok-types.ensures in
-    built_called c.args.self.now c.counts-type_rows.new.self c.build.new.sheet _ _ c.counts-type_rows.ensures.same e.judged e.counted narrow c.build.ensures.grew _ c.in-Ok.ensures.builds
+    built_called c.args.self.now c.counts-type_rows.new.self c.enter.new.sheet _ _ c.counts-type_rows.ensures.same e.judged e.counted narrow c.enter.ensures.grew _ c.in-Ok.ensures.builds
 
 pub returns-in-Err : goal.returns-in-Err
 returns-in-Err c =
@@ -31,7 +31,7 @@ returns-in-Err c =
     let e = c.in_ok-types.ensures in
     let s = c.args.self.now in
     let s₀ = c.counts-type_rows.new.self in
-    let s₁ = c.build.new.sheet in
+    let s₁ = c.enter.new.sheet in
     let n = c.counts-type_rows.ensures in
-    undone_called s s₀ s₁ _ _ n.same e.judged e.counted narrow c.build.ensures.grew _ c.back.new.self c.in-Err.ensures.builds
-    (c.back.ensures _ _ (was s s₀ s₁ _ _ n.same e.judged e.counted narrow c.build.ensures.grew _ _ n.types n.fields))
+    undone_called s s₀ s₁ _ _ n.same e.judged e.counted narrow c.enter.ensures.grew _ c.back.new.self c.in-Err.ensures.builds
+    (c.back.ensures _ _ (was s s₀ s₁ _ _ n.same e.judged e.counted narrow c.enter.ensures.grew _ _ n.types n.fields))

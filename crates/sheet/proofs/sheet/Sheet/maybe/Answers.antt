@@ -1,47 +1,40 @@
-use Rattle.std.proofs.Common.{[], ◌∷◌, refl}
-use Rattle.std.proofs.lemmas.Result.{err_from_is_err_and}
-use Rattle.book.specs.Nodes.{maybe}
-use Rattle.layout.specs.Kept.{nodes_of}
-use Rattle.sheet.proofs.Makes.{fit_maybe, fit_as, made_as, made_still, maybe_unknown, maybe_unit, maybe_long, maybe_good}
+use Rattle.std.proofs.Common.{[], ◌<◌, ◌≤◌, refl, subst}
+use Rattle.grammar.specs.declared.figures.Figures.{Figures}
+use Rattle.book.specs.Nodes.{maybe, maybe_figures}
+use Rattle.sheet.specs.Seen.{nodes_on}
+use Rattle.sheet.proofs.Makes.{fit_maybe, fit_as, made_as, made_still, part_refused, part_long, part_good}
+use Rattle.sheet.proofs.Shown.{exit_outcome}
 use Rattle.sheet.proofs.Texts.{called_maybe}
 use Rattle.sheet.proofs.sheet.Sheet.maybe.Goals as goal
 
 pub returns-in_err-part : goal.returns-in_err-part
 returns-in_err-part c =
     let s = c.args.self.now in
-    let p = err_from_is_err_and c.from_residual.result c.from_residual.ensures.1 in
-    let u = c.in_err-part.ensures.figures in
-    let m = made_still s c.figures.new.self 3 (0 ∷ []) _ c.figures.ensures.same (maybe_unknown s.types.cap (nodes_of s.types s.fields) c.args.n u.unknown) in
-    rw (p.1, p.2, u.refusal) (record { called = called_maybe s c.figures.new.self _ c.args.n m; made = m })
-
-pub returns-then-n-eq0 : goal.returns-then-n-eq0
-returns-then-n-eq0 c =
-    let s = c.args.self.now in
-    let m = made_still s c.figures.new.self 4 (0 ∷ []) _ c.figures.ensures.same (maybe_unit s.types.cap (nodes_of s.types s.fields) c.args.n c.in_ok-part.ensures.figures.known c.if-n-eq0.true) in
-    record { called = called_maybe s c.figures.new.self _ c.args.n m; made = m }
+    let m = made_still s c.part.new.self _ _ _ c.part.ensures.same (part_refused s.types.cap (nodes_on s) c.args.n (maybe c.args.n) _ c.in_err-part.ensures.part) in
+    rw (exit_outcome _ _ c.from_residual.ensures.1) (record { called = called_maybe s c.part.new.self _ c.args.n m; made = m })
 
 pub returns-in_err-figures : goal.returns-in_err-figures
 returns-in_err-figures c =
     let s = c.args.self.now in
-    let p = err_from_is_err_and c.from_residual-in_err-figures.result c.from_residual-in_err-figures.ensures.1 in
+    let k = c.in_ok-part.ensures.part in
     let u = c.in_err-figures.ensures in
-    let m = made_still s c.figures.new.self 7 [] _ c.figures.ensures.same (maybe_long s.types.cap (nodes_of s.types s.fields) c.args.n _ c.in_ok-part.ensures.figures c.if-n-eq0.false u.long) in
-    rw (p.1, p.2, u.refusal) (record { called = called_maybe s c.figures.new.self _ c.args.n m; made = m })
+    let m =
+    made_still s c.part.new.self 7 [] _ c.part.ensures.same
+    (part_long s.types.cap (nodes_on s) c.args.n (maybe c.args.n) _ k (subst (λ (f : Figures). 65535 < (maybe_figures f).length) k.figured.figures u.long)) in
+    rw (exit_outcome _ _ c.from_residual-in_err-figures.ensures.1, u.refusal) (record { called = called_maybe s c.part.new.self _ c.args.n m; made = m })
 
 pub enter-requires : goal.enter-requires
 enter-requires c =
     let s = c.args.self.now in
-    record {
-      fit = fit_as s _ _ c.figures.ensures.same (fit_maybe s.types s.fields c.args.n _ _ c.in_ok-part.ensures.figures c.if-n-eq0.false c.in_ok-figures.ensures);
-      plain = refl;
-    }
+    record { fit = fit_as s _ _ c.part.ensures.same (fit_maybe s.types s.fields c.args.n _ _ c.in_ok-part.ensures.part c.in_ok-figures.ensures); plain = refl }
 
 pub returns : goal.returns
 returns c =
     let s = c.args.self.now in
     let t = c.enter.new.self in
+    let k = c.in_ok-part.ensures.part in
+    let w = c.in_ok-figures.ensures in
     let m =
-    made_as s c.figures.new.self t.types t.fields _ (maybe c.args.n) _ c.figures.ensures.same
-    (maybe_good s.types.cap (nodes_of s.types s.fields) c.args.n _ c.in_ok-part.ensures.figures c.if-n-eq0.false c.in_ok-figures.ensures.short) c.enter.ensures
-    in
+    made_as s c.part.new.self t.types t.fields _ (maybe c.args.n) _ c.part.ensures.same
+    (part_good s.types.cap (nodes_on s) c.args.n (maybe c.args.n) _ k (subst (λ (f : Figures). (maybe_figures f).length ≤ 65535) k.figured.figures w.short)) c.enter.ensures in
     record { called = called_maybe s t _ c.args.n m; made = m }

@@ -3,10 +3,7 @@ use Rattle.layout.proofs.Keep.{out}
 use Rattle.sheet.proofs.Shown.{numbered_row}
 use Rattle.sheet.proofs.sheet.Sheet.numbered.Goals as goal
 
-pub returns-else-n-eq0 : goal.returns-else-n-eq0
-returns-else-n-eq0 c =
+pub returns-clause-row : goal.returns-clause-row
+returns-clause-row c =
     let s = c.args.self.now in
-    record {
-      same = c.field_row.ensures.same;
-      row = numbered_row c.field_row.result s.types s.fields c.args.n (omega arith) (out s.good).sound.good.fields c.if-n-eq0.false c.field_row.ensures.row;
-    }
+    numbered_row c.field_row.result s.fields c.args.n _ (omega (arith, c.in_ok-checked_sub.ensures)) (omega arith) (out s.good).sound.good.fields c.field_row.ensures.row

@@ -1,5 +1,5 @@
 use Rattle.std.proofs.Common.{ℕ, List, [], ◌∷◌, length, sym, ap, ◌∙◌, subst, arith}
-use Rattle.std.proofs.lemmas.Result.{err_from_is_err_and}
+use Rattle.sheet.proofs.Shown.{exit_outcome}
 use Rattle.std.proofs.lemmas.Bool.{eqb-true, eqb-false}
 use Rattle.grammar.specs.declared.figures.Figures.{Figures}
 use Rattle.grammar.specs.Refusals.{refused}
@@ -21,7 +21,6 @@ pub returns-in_err-all_known : goal.returns-in_err-all_known
 returns-in_err-all_known c =
     let s = c.args.self.now in
     let fs = c.args.fs.now in
-    let p = err_from_is_err_and c.from_residual.result c.from_residual.ensures.1 in
     let u = c.in_err-all_known.ensures in
     let h = ap (λ (k : ℕ). unknown_at k fs) c.next_number.ensures.number in
     let m =
@@ -29,18 +28,17 @@ returns-in_err-all_known c =
     (structure_unknown s.types.cap s.fields.cap (nodes_of s.types s.fields) (tails_in s.fields) fs (omega (arith, h, u.1))
     ∙ ap (unknown_value (nodes_of s.types s.fields) (tails_in s.fields)) (sym h))
     in
-    rw (p.1, p.2, u.0) (record { called = called_structure s c.next_number.new.self _ fs m; made = m })
+    rw (exit_outcome _ _ c.from_residual.ensures.1, u.0) (record { called = called_structure s c.next_number.new.self _ fs m; made = m })
 
 pub returns-in_err-no_unit : goal.returns-in_err-no_unit
 returns-in_err-no_unit c =
     let s = c.args.self.now in
     let fs = c.args.fs.now in
     let b = nodes_of s.types s.fields in
-    let p = err_from_is_err_and c.from_residual-in_err-no_unit.result c.from_residual-in_err-no_unit.ensures.1 in
     let u = c.in_err-no_unit.ensures in
     let known = known_by b _ fs c.next_number.ensures.number c.in_ok-all_known.ensures in
     let m = refused_still s c.next_number.new.self 4 _ _ c.next_number.ensures.same (structure_unit s.types.cap s.fields.cap b (tails_in s.fields) fs known u.1) in
-    rw (p.1, p.2, u.0) (record { called = called_structure s c.next_number.new.self _ fs m; made = m })
+    rw (exit_outcome _ _ c.from_residual-in_err-no_unit.ensures.1, u.0) (record { called = called_structure s c.next_number.new.self _ fs m; made = m })
 
 pub returns-then-is_empty : goal.returns-then-is_empty
 returns-then-is_empty c =
@@ -66,27 +64,19 @@ returns-in_err-fields c =
     let s = c.args.self.now in
     let fs = c.args.fs.now in
     let b = nodes_of s.types s.fields in
-    let p = err_from_is_err_and c.from_residual-in_err-fields.result c.from_residual-in_err-fields.ensures.1 in
     let u = long_as s c.next_number.new.self fs _ c.next_number.ensures.same c.in_err-fields.ensures.figures in
     let known = known_by b _ fs c.next_number.ensures.number c.in_ok-all_known.ensures in
     let m =
     refused_still s c.field_figures.new.self 7 [] _ (c.field_figures.ensures.same ∙ c.next_number.ensures.same)
     (structure_long s.types.cap s.fields.cap b (tails_in s.fields) fs known c.in_ok-no_unit.ensures (eqb-false (length fs) 0 (sym c.if-is_empty.ensures)) (omega (arith, u.long)))
     in
-    rw (p.1, p.2, u.refusal) (record { called = called_structure s c.field_figures.new.self _ fs m; made = m })
-
-pub structure_figures-requires : goal.structure_figures-requires
-structure_figures-requires c =
-    let s = c.args.self.now in
-    let f = fields_as s c.next_number.new.self c.args.fs.now _ c.next_number.ensures.same c.in_ok-fields.ensures.figures in
-    subst Bounded (sym f.figures) (fields_in_are (nodes_of s.types s.fields) c.args.fs.now)
+    rw (exit_outcome _ _ c.from_residual-in_err-fields.ensures.1, u.refusal) (record { called = called_structure s c.field_figures.new.self _ fs m; made = m })
 
 pub returns-in_err-figures : goal.returns-in_err-figures
 returns-in_err-figures c =
     let s = c.args.self.now in
     let fs = c.args.fs.now in
     let b = nodes_of s.types s.fields in
-    let p = err_from_is_err_and c.from_residual-in_err-figures.result c.from_residual-in_err-figures.ensures.1 in
     let f = fields_as s c.next_number.new.self fs _ c.next_number.ensures.same c.in_ok-fields.ensures.figures in
     let u = c.in_err-figures.ensures in
     let known = known_by b _ fs c.next_number.ensures.number c.in_ok-all_known.ensures in
@@ -95,7 +85,7 @@ returns-in_err-figures c =
     (structure_long s.types.cap s.fields.cap b (tails_in s.fields) fs known c.in_ok-no_unit.ensures (eqb-false (length fs) 0 (sym c.if-is_empty.ensures))
     (omega (arith, u.long, ap (λ (x : Figures). x.length) f.figures)))
     in
-    rw (p.1, p.2, u.refusal) (record { called = called_structure s c.field_figures.new.self _ fs m; made = m })
+    rw (exit_outcome _ _ c.from_residual-in_err-figures.ensures.1, u.refusal) (record { called = called_structure s c.field_figures.new.self _ fs m; made = m })
 
 pub structure_of-requires : goal.structure_of-requires
 structure_of-requires c =
@@ -103,7 +93,7 @@ structure_of-requires c =
     let fs = c.args.fs.now in
     let b = nodes_of s.types s.fields in
     let f = fields_as s c.next_number.new.self fs _ c.next_number.ensures.same c.in_ok-fields.ensures.figures in
-    let w = c.in_ok-figures.ensures in
+    let w = c.in_ok-figures.ensures (subst Bounded (sym f.figures) (fields_in_are b fs)) in
     let parts = parts_from b fs (known_by b _ fs c.next_number.ensures.number c.in_ok-all_known.ensures) c.in_ok-no_unit.ensures in
     structured_as s _ fs _ (c.field_figures.ensures.same ∙ c.next_number.ensures.same)
     (record {
@@ -121,7 +111,7 @@ returns c =
     let fs = c.args.fs.now in
     let b = nodes_of s.types s.fields in
     let f = fields_as s c.next_number.new.self fs _ c.next_number.ensures.same c.in_ok-fields.ensures.figures in
-    let w = c.in_ok-figures.ensures in
+    let w = c.in_ok-figures.ensures (subst Bounded (sym f.figures) (fields_in_are b fs)) in
     let known = known_by b _ fs c.next_number.ensures.number c.in_ok-all_known.ensures in
     let m =
     structure_as s c.field_figures.new.self t.types t.fields fs _ _ (c.field_figures.ensures.same ∙ c.next_number.ensures.same)

@@ -1,15 +1,12 @@
-use Rattle.std.proofs.lemmas.Result.{err_from_is_err_and}
-use Rattle.sheet.proofs.Shown.{value_yes, value_no, value_unknown}
+use Rattle.std.proofs.Common.{◌∙◌}
+use Rattle.sheet.proofs.Shown.{exit_unknown, value_yes, value_no, value_unknown}
 use Rattle.sheet.proofs.sheet.Sheet.value.Goals as goal
 
-pub returns-in_err-row : goal.returns-in_err-row
-returns-in_err-row c =
-    let p = err_from_is_err_and c.from_residual.result c.from_residual.ensures.1 in
-    let u = c.in_err-row.ensures.row in
-    record { same = c.container.ensures.same; answer = rw (p.1, p.2, u.refusal) (value_unknown c.args.self.now c.args.n u.unknown) }
+pub returns-in_err-row-clause-answer : goal.returns-in_err-row-clause-answer
+returns-in_err-row-clause-answer c = let u = c.in_err-row.ensures.row in exit_unknown _ c.from_residual.ensures.1 u ∙ value_unknown c.args.self.now c.args.n u.unknown
 
-pub returns-then-row-eq-DICT : goal.returns-then-row-eq-DICT
-returns-then-row-eq-DICT c = record { same = c.container.ensures.same; answer = value_yes c.args.self.now c.args.n c.in_ok-row.row c.in_ok-row.ensures.row c.if-row-eq-DICT.true }
+pub returns-in-Dict-clause-answer : goal.returns-in-Dict-clause-answer
+returns-in-Dict-clause-answer c = value_yes c.args.self.now c.args.n _ c.in_ok-row.ensures.row c.in-Dict.is
 
-pub returns-else-row-eq-DICT : goal.returns-else-row-eq-DICT
-returns-else-row-eq-DICT c = record { same = c.container.ensures.same; answer = value_no c.args.self.now c.args.n c.in_ok-row.row c.in_ok-row.ensures.row c.if-row-eq-DICT.false }
+pub returns-in_default : goal.returns-in_default
+returns-in_default c = record { same = c.container.ensures.same; answer = value_no c.args.self.now c.args.n _ c.in_ok-row.ensures.row c.in_default.not-Dict }

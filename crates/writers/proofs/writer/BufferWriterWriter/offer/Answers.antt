@@ -1,27 +1,7 @@
-use Rattle.std.proofs.Common.{refl, ap}
-use Rattle.std.proofs.lemmas.List.{take_more_set, length-set}
-use Rattle.writers.specs.Rule.{room}
-use Rattle.writers.proofs.Offers.{room_yes, room_no, rest_set}
+use Rattle.std.proofs.Common.{arith}
+use Rattle.std.proofs.lemmas.Grind.{common_steps}
+use Rattle.std.proofs.lemmas.List.{drop-drop, drop-set-lt}
 use Rattle.writers.proofs.writer.BufferWriterWriter.offer.Goals as goal
 
-pub returns-then-self : goal.returns-then-self
-returns-then-self c =
-    let s = c.args.self.now in
-    record {
-      answer = room_yes s.count s.buffer.now c.args.b c.if-self.true;
-      taken = take_more_set s.buffer.now s.count c.args.b c.if-self.true;
-      rule = ap room (length-set s.buffer.now s.count c.args.b);
-      rest = rest_set s.count s.buffer.now c.args.b;
-      site = refl;
-    }
-
-pub returns-else-self : goal.returns-else-self
-returns-else-self c =
-    let s = c.args.self.now in
-    record {
-      answer = room_no s.count s.buffer.now c.args.b c.if-self.false;
-      taken = refl;
-      rule = refl;
-      rest = refl;
-      site = refl;
-    }
+pub returns-clause-took : goal.returns-clause-took
+returns-clause-took c = grind (arith, common_steps, drop-drop 1 c.args.self.now.count c.args.self.now.buffer.now, drop-set-lt)
