@@ -1,12 +1,6 @@
 use Rattle.std.proofs.Common.{◌∙◌}
-use Rattle.std.proofs.lemmas.Result.{err_from_is_err_and}
 use Rattle.intake.proofs.Forming.{known_after, figures_are, never_unknown, text_long}
 use Rattle.intake.proofs.filing.file.Goals as goal
-
-pub returns-in_err-number : goal.returns-in_err-number
-returns-in_err-number c =
-    let p = err_from_is_err_and c.from_residual.result c.from_residual.ensures.1 in
-    rw (p.1, p.2) (record { called = c.in_err-number.ensures; told = tt })
 
 pub returns-in_err-figures : goal.returns-in_err-figures
 returns-in_err-figures c =

@@ -1,8 +1,0 @@
-use Rattle.tries.proofs.deep.Goals as goal
-
-pub returns : goal.returns
-returns g c =
-    let first = rw c.in_ok-at_place.was at c.at_place.ensures in
-    let second = rw c.in_ok-at_place-2.was at c.at_place-2.ensures in
-    let third = rw c.in_ok-at_place-3.was at c.at_place-3.ensures in
-    (record { sheet = _; number = _; left = _; asked = first }, (record { sheet = _; number = _; left = _; asked = second }, (record { sheet = _; number = _; left = _; asked = third }, tt)))
