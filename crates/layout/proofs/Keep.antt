@@ -1,24 +1,18 @@
 -- What a sheet keeps has one proof, holds of an empty sheet, and goes on with one row more.
-use Rattle.std.proofs.Common.{◌≡◌, ℕ, ◌+◌, ◌<◌, Bool, true, false, eqb, List, [], ◌∷◌, ◌++◌, length, get_or, drop, sym, refl, ap, ◌∙◌, subst, add-zero, arith}
-use mathlib.Core.List.{List-discrete}
-use mathlib.Core.HLevel.{Discrete, Π_prop, ×_prop, ⊥_prop, hedberg}
+use Rattle.std.proofs.Common.{◌≡◌, ℕ, ◌+◌, ◌<◌, List, [], ◌∷◌, ◌++◌, length, get_or, sym, refl, ap, ◌∙◌, subst, add-zero, arith}
 use mathlib.Core.Logic.{∥∥₁_elim}
-use native.Mathlib.Bridge.{le_prop}
-use native.Mathlib.Decide.{ℕ_discrete, dec_lt}
-use Rattle.std.proofs.lemmas.List.{length_push, get_or_push, get_or_append_left, map_push, get_or_past, length-map}
+use native.Mathlib.Decide.{dec_lt}
+use Rattle.std.proofs.lemmas.List.{length_push, get_or_push, get_or_append_left, map_push, length-map}
 use Rattle.std.proofs.Props.{props}
 use Rattle.std.proofs.lemmas.Grind.{common_steps}
 use Rattle.grammar.specs.declared.figures.Figures.{Figures}
-use Rattle.book.specs.Nodes.{Node, array, maybe, dict, structure, node_figures, figures_from, Part, Parts, Known, Chain}
+use Rattle.book.specs.Nodes.{Node, array, maybe, dict, structure, node_figures, figures_from, Parts, Known, Chain}
 use Rattle.book.proofs.Figured.{figures_push}
-use Rattle.layout.specs.declared.row.Kind.{Kind}
-use Rattle.layout.specs.Kinds.{kind_number}
-use Rattle.layout.proofs.KindNumbers.{kind_of, kind_back}
 use Rattle.layout.specs.declared.row.TypeRow.{TypeRow}
 use Rattle.layout.specs.declared.row.FieldRow.{FieldRow}
-use Rattle.layout.specs.Tails.{blank_field, field_key, row_tails, row_tails_from, FieldsGood}
+use Rattle.layout.specs.Tails.{blank_field, row_tails, row_tails_from}
 use Rattle.book.specs.Rows.{node_key}
-use Rattle.layout.specs.Kept.{Good, Sound, Kept, nodes, node_of, type_key, figures_in, blank_type}
+use Rattle.layout.specs.Kept.{Good, Kept, nodes, node_of, type_key, figures_in, blank_type}
 
 -- It has one proof.
 parts_prop : (m : ℕ) (ns : List ℕ) → IsProp (Parts m ns)

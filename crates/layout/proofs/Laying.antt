@@ -1,8 +1,8 @@
 -- The tails that field rows hold, and a row more for a new tail.
-use Rattle.std.proofs.Common.{◌≡◌, ℕ, zero, suc, ◌+◌, ◌<◌, ◌≤◌, Bool, true, false, cond, List, [], ◌∷◌, ◌++◌, length, get_or, drop, sym, refl, ap, ◌∙◌, subst, zero-add, add-one, arith}
+use Rattle.std.proofs.Common.{◌≡◌, ℕ, zero, suc, ◌+◌, ◌<◌, ◌≤◌, List, [], ◌∷◌, ◌++◌, length, get_or, drop, sym, refl, ap, ◌∙◌, subst, zero-add, add-one, arith}
 use Rattle.std.proofs.lemmas.List.{length_push, get_or_push, get_or_append_left}
 use Rattle.std.proofs.lemmas.Grind.{common_steps}
-use Rattle.grammar.specs.Lists.{has, place, add}
+use Rattle.grammar.specs.Lists.{place, add}
 use Rattle.book.specs.Makers.{add_tails}
 use Rattle.layout.specs.declared.row.FieldRow.{FieldRow}
 use Rattle.book.specs.Rows.{tail_number, tail_key}

@@ -1,9 +1,9 @@
 -- More field rows leave the type rows as they are.
-use Rattle.std.proofs.Common.{◌≡◌, ℕ, zero, suc, ◌+◌, ◌<◌, ◌≤◌, Bool, true, false, cond, List, [], ◌∷◌, ◌++◌, length, get_or, take, sym, refl, ap, ◌∙◌, subst, arith}
+use Rattle.std.proofs.Common.{◌≡◌, ℕ, zero, suc, ◌+◌, ◌<◌, ◌≤◌, List, [], ◌∷◌, length, get_or, take, sym, refl, ap, ◌∙◌, subst, arith}
 use native.Mathlib.Decide.{dec_lt}
-use Rattle.std.proofs.lemmas.List.{get_or_append_left, get_or-map, length-map, length-take-le, get_or_past, same_lists}
+use Rattle.std.proofs.lemmas.List.{get_or-map, length-map, length-take-le, get_or_past, same_lists}
 use Rattle.std.proofs.lemmas.Grind.{common_steps}
-use Rattle.grammar.specs.Lists.{has, place, add}
+use Rattle.grammar.specs.Lists.{place, add}
 use Rattle.book.specs.Nodes.{Node, array, maybe, dict, structure, figures_from, Chain}
 use Rattle.book.specs.Makers.{add_tails}
 use Rattle.layout.specs.declared.row.Kind.{Kind}

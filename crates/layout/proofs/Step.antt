@@ -3,7 +3,7 @@ use Rattle.std.proofs.Common.{◌≡◌, ℕ, ◌+◌, ◌<◌, ◌≤◌, min, 
 use Rattle.std.proofs.lemmas.List.{take_more_set, get_or-map, get_or-take, map_push, length-take-le, length-map, get_or-set_other}
 use Rattle.grammar.specs.Lists.{place}
 use Rattle.grammar.specs.Refusals.{accepted, refused}
-use Rattle.rows.specs.Found.{Held, Added, Refused, Place, Absent}
+use Rattle.rows.specs.Found.{Held, Added, Refused, Place}
 use Rattle.book.specs.Plain.{Answer}
 use Rattle.book.specs.Nodes.{Node, same_node, fields_of, tails_of}
 use Rattle.book.specs.Makers.{placed, add_tails}

@@ -11,7 +11,6 @@ use Rattle.layout.specs.Kept.{Kept, nodes_of, tails_in, blank_type}
 use Rattle.layout.specs.Laid.{Laid}
 use Rattle.layout.specs.Grown.{Same, Grown, Cut, Grew, Unchanged}
 use Rattle.layout.specs.Called.{limits_of}
-use Rattle.layout.proofs.Keep.{out}
 
 pub same_refl : {R : Type 0} (t : RowList R) → Same t t
 same_refl t = record { rows = refl; count = refl; cap = refl }

@@ -13,7 +13,7 @@ use Rattle.layout.specs.declared.row.TypeRow.{TypeRow}
 use Rattle.layout.specs.declared.row.FieldRow.{FieldRow}
 use Rattle.sheet.specs.declared.sheet.Sheet.{Sheet}
 use Rattle.layout.specs.Kept.{Fit, nodes_of, tails_in, types_in, fields_in, node_of}
-use Rattle.layout.specs.Figured.{Bounded, Short, Figured, NotKnown, FiguredPart, NotPart}
+use Rattle.layout.specs.Figured.{Bounded, Short, Figured, FiguredPart, NotPart}
 use Rattle.layout.specs.Made.{Made, with_tails}
 use Rattle.layout.proofs.Bounds.{bounded}
 use Rattle.layout.proofs.Undo.{unchanged_refl, grew_same}
@@ -49,16 +49,6 @@ module _ (t : RowList TypeRow) (f : RowList FieldRow) where
     figures = s.figures ∙ ap (λ (u : Figures). dict_figures u value) p.figures ∙ ap (dict_figures (figures_at (figures_from [] (nodes_of t f)) k)) q.figures;
     known = ((omega arith, omega (arith, count, p.known)), (omega arith, omega (arith, count, q.known)));
   }
-
--- the two lists of a sheet, where it is as it was
-pub fit_as : (s s' : Sheet) (r : TypeRow) → s' ≡ s → Fit (types_in s.types) (fields_in s.fields) r → Fit (types_in s'.types) (fields_in s'.fields) r
-fit_as s s' r e h = subst (λ (x : Sheet). Fit (types_in x.types) (fields_in x.fields) r) (sym e) h
-
-pub figured_as : (s s' : Sheet) (n : ℕ) (f : Figures) → s' ≡ s → Figured (nodes_of s'.types s'.fields) n f → Figured (nodes_of s.types s.fields) n f
-figured_as s s' n f e h = subst (λ (x : Sheet). Figured (nodes_of x.types x.fields) n f) e h
-
-pub unknown_as : (s s' : Sheet) (n p : ℕ) (e : Refusal) → s' ≡ s → NotKnown (nodes_of s'.types s'.fields) n p e → NotKnown (nodes_of s.types s.fields) n p e
-unknown_as s s' n p e q h = subst (λ (x : Sheet). NotKnown (nodes_of x.types x.fields) n p e) q h
 
 -- a refusal leaves the sheet as it was
 pub made_still : (s s' : Sheet) (e : ℕ) (vs : List ℕ) (said : Answer × List Node) → s' ≡ s → said ≡ (refused e vs, nodes_of s.types s.fields)

@@ -2,18 +2,16 @@
 use Rattle.std.proofs.Common.{◌≡◌, ℕ, suc, ◌+◌, ◌<◌, ◌≤◌, min, List, [], ◌∷◌, ◌++◌, length, get_or, sym, refl, ap, ◌∙◌, subst, inl, inr, arith, le-ltb, lt-ltb, eq-eqb, ne_eqb}
 use Rattle.std.proofs.lemmas.List.{length-take-le, length-map, length-set}
 use Rattle.grammar.specs.declared.figures.Figures.{Figures}
-use Rattle.grammar.specs.declared.error.Refusal.{Refusal}
 use Rattle.grammar.specs.Refusals.{accepted, refused}
 use Rattle.rows.specs.declared.RowList.{RowList}
 use Rattle.rows.specs.Found.{Refused, Place}
 use Rattle.book.specs.Plain.{Answer}
-use Rattle.book.specs.Nodes.{Node, structure, field_figures, node_figures, figures_from, size_of, tails_of, Parts, Known}
+use Rattle.book.specs.Nodes.{Node, structure, node_figures, figures_from, size_of, tails_of, Parts, Known}
 use Rattle.book.specs.Makers.{placed, add_tails, kept, structure_placed, structure_call, unknown_at, unit_at}
 use Rattle.layout.specs.declared.row.Kind.TheVariants.{Structure}
 use Rattle.layout.specs.declared.row.TypeRow.{TypeRow}
 use Rattle.layout.specs.declared.row.FieldRow.{FieldRow}
 use Rattle.sheet.specs.declared.sheet.Sheet.{Sheet}
-use Rattle.layout.specs.Figured.{Short, Long}
 use Rattle.layout.specs.Tails.{blank_field}
 use Rattle.layout.specs.Laid.{Ready, Laid, NoRoom}
 use Rattle.book.specs.Rows.{node_key}
@@ -227,18 +225,6 @@ pub structure_as : (s s' : Sheet) (t : RowList TypeRow) (f : RowList FieldRow) (
 structure_as s s' t f fs r x q p h =
     made_by s.types s.fields t f r x (structure_placed s.types.cap s.fields.cap (nodes_of s.types s.fields) (tails_in s.fields) fs) p
     (subst (λ (u : Sheet). Made u.types u.fields t f r (structure_placed u.types.cap u.fields.cap (nodes_of u.types u.fields) (tails_in u.fields) fs)) q h)
-
-pub structured_as : (s s' : Sheet) (fs : List ℕ) (whole : Figures) → s' ≡ s → Structured s.types s.fields fs whole → Structured s'.types s'.fields fs whole
-structured_as s s' fs whole q h = subst (λ (u : Sheet). Structured u.types u.fields fs whole) (sym q) h
-
-pub parts_as : (s s' : Sheet) (fs : List ℕ) → s' ≡ s → AllParts (length (nodes_of s.types s.fields)) fs → AllParts (length (nodes_of s'.types s'.fields)) fs
-parts_as s s' fs q h = subst (λ (u : Sheet). AllParts (length (nodes_of u.types u.fields)) fs) (sym q) h
-
-pub fields_as : (s s' : Sheet) (fs : List ℕ) (f : Figures) → s' ≡ s → Short (field_figures (figures_from [] (nodes_of s'.types s'.fields)) fs) f → Short (field_figures (figures_from [] (nodes_of s.types s.fields)) fs) f
-fields_as s s' fs f q h = subst (λ (u : Sheet). Short (field_figures (figures_from [] (nodes_of u.types u.fields)) fs) f) q h
-
-pub long_as : (s s' : Sheet) (fs : List ℕ) (e : Refusal) → s' ≡ s → Long (field_figures (figures_from [] (nodes_of s'.types s'.fields)) fs) e → Long (field_figures (figures_from [] (nodes_of s.types s.fields)) fs) e
-long_as s s' fs e q h = subst (λ (u : Sheet). Long (field_figures (figures_from [] (nodes_of u.types u.fields)) fs) e) q h
 
 -- numbers of which none is unknown and none is Unit
 pub known_by : (b : List Node) (k : ℕ) (fs : List ℕ) → k ≡ 15 + length b → length fs ≤ unknown_at k fs → length fs ≤ unknown_at (15 + length b) fs

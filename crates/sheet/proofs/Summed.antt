@@ -10,7 +10,6 @@ use Rattle.layout.specs.Kept.{nodes_of}
 use Rattle.layout.specs.Figured.{Figured}
 use Rattle.layout.specs.Structured.{AllParts}
 use Rattle.layout.proofs.Keep.{each_push}
-use Rattle.sheet.proofs.Makes.{figured_as}
 
 pub fields_step : (acc : List Figures) (fs : List ℕ) (i j : ℕ) → i ≡ j + 1 → j < length fs → field_figures acc (drop j fs) ≡ with_field (figures_at acc (get_or fs j 0)) (field_figures acc (drop i fs))
 fields_step acc fs i j e l = ap (field_figures acc) (drop_more fs j 0 l) ∙ ap (λ (u : ℕ). with_field (figures_at acc (get_or fs j 0)) (field_figures acc (drop u fs))) (sym e)
@@ -61,7 +60,7 @@ pub fields_with : (s s' : Sheet) (fs : List ℕ) (i j : ℕ) (field all : Figure
     → all ≡ field_figures (figures_from [] (nodes_of s.types s.fields)) (drop i fs) → i ≡ j + 1 → j < length fs
     → with_field field all ≡ field_figures (figures_from [] (nodes_of s.types s.fields)) (drop j fs)
 fields_with s s' fs i j field all q k e ei l =
-    let f = figured_as s s' (get_or fs j 0) field q k in
+    let f = rw q at k in
     ap (λ (x : Figures). with_field x all) f.figures
     ∙ ap (with_field (figures_at (figures_from [] (nodes_of s.types s.fields)) (get_or fs j 0))) e
     ∙ sym (fields_step (figures_from [] (nodes_of s.types s.fields)) fs i j ei l)

@@ -1,5 +1,4 @@
 use Rattle.std.proofs.Common.{◌∙◌}
-use Rattle.sheet.proofs.Makes.{figured_as, unknown_as}
 use Rattle.sheet.proofs.Shown.{exit_unknown, both_known, first_unknown, second_unknown}
 use Rattle.sheet.proofs.sheet.Sheet.eq.Goals as goal
 
@@ -11,10 +10,10 @@ returns-in_err-figures-clause-answer c =
 pub returns-in_err-figures-2-clause-answer : goal.returns-in_err-figures-2-clause-answer
 returns-in_err-figures-2-clause-answer c =
     let s = c.args.self.now in
-    let u = unknown_as s _ c.args.b 1 _ c.figures.ensures.same c.in_err-figures-2.ensures.figures in
+    let u = rw c.figures.ensures.same at c.in_err-figures-2.ensures.figures in
     exit_unknown _ c.from_residual-in_err-figures-2.ensures.1 u ∙ second_unknown s c.args.a c.args.b _ c.in_ok-figures.ensures.figures u.unknown
 
 pub returns-clause-answer : goal.returns-clause-answer
 returns-clause-answer c =
     let s = c.args.self.now in
-    both_known s c.args.a c.args.b _ _ c.in_ok-figures.ensures.figures (figured_as s _ c.args.b _ c.figures.ensures.same c.in_ok-figures-2.ensures.figures)
+    both_known s c.args.a c.args.b _ _ c.in_ok-figures.ensures.figures (rw c.figures.ensures.same at c.in_ok-figures-2.ensures.figures)

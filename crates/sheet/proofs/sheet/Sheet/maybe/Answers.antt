@@ -2,7 +2,7 @@ use Rattle.std.proofs.Common.{[], ◌<◌, ◌≤◌, refl, subst}
 use Rattle.grammar.specs.declared.figures.Figures.{Figures}
 use Rattle.book.specs.Nodes.{maybe, maybe_figures}
 use Rattle.sheet.specs.Seen.{nodes_on}
-use Rattle.sheet.proofs.Makes.{fit_maybe, fit_as, made_as, made_still, part_refused, part_long, part_good}
+use Rattle.sheet.proofs.Makes.{fit_maybe, made_as, made_still, part_refused, part_long, part_good}
 use Rattle.sheet.proofs.Shown.{exit_outcome}
 use Rattle.sheet.proofs.Texts.{called_maybe}
 use Rattle.sheet.proofs.sheet.Sheet.maybe.Goals as goal
@@ -26,7 +26,7 @@ returns-in_err-figures c =
 pub enter-requires : goal.enter-requires
 enter-requires c =
     let s = c.args.self.now in
-    record { fit = fit_as s _ _ c.part.ensures.same (fit_maybe s.types s.fields c.args.n _ _ c.in_ok-part.ensures.part c.in_ok-figures.ensures); plain = refl }
+    record { fit = rw c.part.ensures.same (fit_maybe s.types s.fields c.args.n _ _ c.in_ok-part.ensures.part c.in_ok-figures.ensures); plain = refl }
 
 pub returns : goal.returns
 returns c =

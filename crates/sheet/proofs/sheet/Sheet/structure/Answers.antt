@@ -10,7 +10,7 @@ use Rattle.layout.specs.Kept.{nodes_of, tails_in}
 use Rattle.layout.specs.Figured.{Bounded}
 use Rattle.layout.proofs.Bounds.{fields_in_are}
 use Rattle.sheet.proofs.Summed.{few_fields}
-use Rattle.sheet.proofs.Structs.{structure_unknown, structure_unit, structure_none, structure_long, structure_good, refused_still, structure_as, structured_as, parts_as, fields_as, long_as, known_by, parts_from}
+use Rattle.sheet.proofs.Structs.{structure_unknown, structure_unit, structure_none, structure_long, structure_good, refused_still, structure_as, known_by, parts_from}
 use Rattle.sheet.proofs.Texts.{called_structure}
 use Rattle.sheet.proofs.sheet.Sheet.structure.Goals as goal
 
@@ -57,14 +57,14 @@ field_figures-requires c =
     let s = c.args.self.now in
     let fs = c.args.fs.now in
     let b = nodes_of s.types s.fields in
-    parts_as s _ fs c.next_number.ensures.same (parts_from b fs (known_by b _ fs c.next_number.ensures.number c.in_ok-all_known.ensures) c.in_ok-no_unit.ensures)
+    rw c.next_number.ensures.same (parts_from b fs (known_by b _ fs c.next_number.ensures.number c.in_ok-all_known.ensures) c.in_ok-no_unit.ensures)
 
 pub returns-in_err-fields : goal.returns-in_err-fields
 returns-in_err-fields c =
     let s = c.args.self.now in
     let fs = c.args.fs.now in
     let b = nodes_of s.types s.fields in
-    let u = long_as s c.next_number.new.self fs _ c.next_number.ensures.same c.in_err-fields.ensures.figures in
+    let u = rw c.next_number.ensures.same at c.in_err-fields.ensures.figures in
     let known = known_by b _ fs c.next_number.ensures.number c.in_ok-all_known.ensures in
     let m =
     refused_still s c.field_figures.new.self 7 [] _ (c.field_figures.ensures.same ∙ c.next_number.ensures.same)
@@ -77,7 +77,7 @@ returns-in_err-figures c =
     let s = c.args.self.now in
     let fs = c.args.fs.now in
     let b = nodes_of s.types s.fields in
-    let f = fields_as s c.next_number.new.self fs _ c.next_number.ensures.same c.in_ok-fields.ensures.figures in
+    let f = rw c.next_number.ensures.same at c.in_ok-fields.ensures.figures in
     let u = c.in_err-figures.ensures in
     let known = known_by b _ fs c.next_number.ensures.number c.in_ok-all_known.ensures in
     let m =
@@ -92,10 +92,10 @@ structure_of-requires c =
     let s = c.args.self.now in
     let fs = c.args.fs.now in
     let b = nodes_of s.types s.fields in
-    let f = fields_as s c.next_number.new.self fs _ c.next_number.ensures.same c.in_ok-fields.ensures.figures in
+    let f = rw c.next_number.ensures.same at c.in_ok-fields.ensures.figures in
     let w = c.in_ok-figures.ensures (subst Bounded (sym f.figures) (fields_in_are b fs)) in
     let parts = parts_from b fs (known_by b _ fs c.next_number.ensures.number c.in_ok-all_known.ensures) c.in_ok-no_unit.ensures in
-    structured_as s _ fs _ (c.field_figures.ensures.same ∙ c.next_number.ensures.same)
+    rw (c.field_figures.ensures.same, c.next_number.ensures.same)
     (record {
       parts = parts;
       some = omega (arith, eqb-false (length fs) 0 (sym c.if-is_empty.ensures));
@@ -110,7 +110,7 @@ returns c =
     let t = c.structure_of.new.self in
     let fs = c.args.fs.now in
     let b = nodes_of s.types s.fields in
-    let f = fields_as s c.next_number.new.self fs _ c.next_number.ensures.same c.in_ok-fields.ensures.figures in
+    let f = rw c.next_number.ensures.same at c.in_ok-fields.ensures.figures in
     let w = c.in_ok-figures.ensures (subst Bounded (sym f.figures) (fields_in_are b fs)) in
     let known = known_by b _ fs c.next_number.ensures.number c.in_ok-all_known.ensures in
     let m =
