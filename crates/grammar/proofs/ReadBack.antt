@@ -84,15 +84,8 @@ pub reading_printed : (t : Shape) → reading (printed t) ≡ some t
 unfolding reading
 reading_printed t = ap whole (ap (read_type (length (printed t))) (sym (append-nil (printed t))) ∙ reads t (length (printed t)) [] (omega arith))
 
-some_inj : {A : Type 0} {x y : A} → some x ≡ some y → x ≡ y
-some_inj e = cc
-
 pub printed_inj : (s t : Shape) → printed s ≡ printed t → s ≡ t
-printed_inj s t e = some_inj (sym (reading_printed s) ∙ ap reading e ∙ reading_printed t)
-
-step_top : (n b : ℕ) (v u : Text) (t : Shape) (ts : Shapes) → read_type n (b ∷ v) ≡ some (t, u) → read_types n u ≡ some ts → read_types (suc n) (b ∷ v) ≡ some (more t ts)
-unfolding read_types
-step_top n b v u t ts e f = rw (e, read_types) (rw f)
+printed_inj s t e = cc (reading_printed s, reading_printed t)
 
 reads_top : (ts : Shapes) (n : ℕ) → length (printed_all ts) + 1 ≤ n → read_types n (printed_all ts) ≡ some ts
 unfolding read_types
@@ -101,9 +94,8 @@ reads_top (more t ts) zero l = absurd (omega arith)
 reads_top (more t ts) (suc n) l =
     let h = head t in
     let a = length-append (printed t) (printed_all ts) in
-    let e : printed t ++ printed_all ts ≡ h.byte ∷ (h.tail ++ printed_all ts) = ap (λ (z : Text). z ++ printed_all ts) h.text in
-    ap (read_types (suc n)) e ∙ step_top n h.byte (h.tail ++ printed_all ts) (printed_all ts) t ts
-    (ap (read_type n) (sym e) ∙ reads t n (printed_all ts) (omega arith)) (reads_top ts n (omega (arith, long t)))
+    let e : read_type n (h.byte ∷ (h.tail ++ printed_all ts)) ≡ some (t, printed_all ts) = cc (h.text, reads t n (printed_all ts) (omega arith)) in
+    rw (h.text, e, read_types) (rw (reads_top ts n (omega (arith, long t))))
 
 pub read_all_printed : (ts : Shapes) → read_all (printed_all ts) ≡ some ts
 unfolding read_all
@@ -114,4 +106,4 @@ unfolding reading read_type
 reading_empty = refl
 
 pub printed_all_inj : (ts us : Shapes) → printed_all ts ≡ printed_all us → ts ≡ us
-printed_all_inj ts us e = some_inj (sym (read_all_printed ts) ∙ ap read_all e ∙ read_all_printed us)
+printed_all_inj ts us e = cc (read_all_printed ts, read_all_printed us)
