@@ -10,7 +10,8 @@ use Rattle.grammar.specs.Valid.{Valid, Start, Place, Because, FaultOf, StartAtAn
 use Rattle.grammar.specs.Scan.{Frame, one, others, element, close, types, Step, go, stop, Verdict, good, bad, begin, step, final, run, top, fault_by, fault}
 use Rattle.grammar.specs.Laws.{OneFault, ScanIsExact, ExactlyOneFault}
 use Rattle.grammar.proofs.ScanSteps.{run_next, run_stop, run_good, run_one, run_others, run_element, run_close, begin_basic, step_one, step_types, step_none, step_others, step_others_end, step_element, step_element_pair, step_close, step_close_not, Begins, begins, is_code, is_maybe, is_array, is_structure, is_deep, is_other}
-use Rattle.grammar.proofs.ScanComplete.{complete_top, front}
+use Rattle.grammar.proofs.ScanComplete.{complete_top}
+use Rattle.grammar.proofs.ReadBack.{head}
 use Rattle.grammar.proofs.ScanSound.{sound}
 use Rattle.grammar.proofs.ScanRaise.{raise, raise_step, raise_deep}
 
@@ -239,7 +240,7 @@ module _ (w : Text) (n : ℕ) (within : n ≤ length w) (before : Text) (k : Lis
       (short b r e, record { opens = rw (byte b r e) o.0; shape = y; begins = rw is-take (begun before k o.1.0 reach o.1.1); alone = loose b r e o.0 f })
   because Unexpected (b ∷ r) e f = (
     short b r e,
-    λ d. let x = front d.shape in
+    λ d. let x = head d.shape in
         dead before (x.tail ++ d.begins.rest) k x.byte Unexpected reach
         (unexpected_all k b f (rw (byte b r e) at d.opens) x.byte x.no_end)
         (rw (is-take, x.text, append_assoc) at d.begins.valid),
