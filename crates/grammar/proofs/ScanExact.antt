@@ -49,24 +49,15 @@ pub record Stuck (k : List Frame) (w : Text) (c : Cause) (r : Text) : Type 0 whe
   pub raised : (x : Text) → run (raise k) (before ++ x) ≡ run (raise stack) x
   pub fails : Fails stack c r
 
-same_cause : (c d : Cause) (r s : Text) → bad c r ≡ bad d s → c ≡ d
-same_cause c d r s e = cc
-
-same_rest : (c d : Cause) (r s : Text) → bad c r ≡ bad d s → r ≡ s
-same_rest c d r s e = cc
-
-bad_good : (c : Cause) (w : Text) → bad c w ≡ good → ⊥
-bad_good c w p = let z : ◌≡◌ {A = ℕ} 0 1 = cc in omega arith
-
 moved : (k : List Frame) (w : Text) (c d : Cause) (r s : Text) → bad c r ≡ bad d s → Stuck k w c r → Stuck k w d s
-moved k w c d r s e x = subst (λ (y : Text). Stuck k w d y) (same_rest c d r s e) (subst (λ (y : Cause). Stuck k w y r) (same_cause c d r s e) x)
+moved k w c d r s e x = let p : c ≡ d = cc in let q : r ≡ s = cc in subst (λ (y : Text). Stuck k w d y) q (subst (λ (y : Cause). Stuck k w y r) p x)
 
 ends : (k : List Frame) (c : Cause) (r : Text) → bad Ended [] ≡ bad c r → Stuck k [] c r
 ends k c r e = moved k [] Ended c [] r e (record { before = []; stack = k; text = refl; reach = λ x. refl; raised = λ x. refl; fails = refl })
 
 pub stuck : (w : Text) (k : List Frame) (c : Cause) (r : Text) → run k w ≡ bad c r → Stuck k w c r
-stuck [] [] c r e = absurd (bad_good c r (sym e ∙ run_none))
-stuck [] (types s a ∷ k) c r e = absurd (bad_good c r (sym e ∙ run_good s a k))
+stuck [] [] c r e = cc run_none
+stuck [] (types s a ∷ k) c r e = cc (run_good s a k)
 stuck [] (one s a ∷ k) c r e = ends (one s a ∷ k) c r (sym (run_one s a k) ∙ e)
 stuck [] (others s a ∷ k) c r e = ends (others s a ∷ k) c r (sym (run_others s a k) ∙ e)
 stuck [] (element s a ∷ k) c r e = ends (element s a ∷ k) c r (sym (run_element s a k) ∙ e)
@@ -80,49 +71,37 @@ stuck (b ∷ w) k c r e = stuck_by b w k c r e (stuck w) (step k b) refl
         moved k (b ∷ w) d c (b ∷ w) r (sym (run_stop k b d w h) ∙ e) (record { before = []; stack = k; text = refl; reach = λ x. refl; raised = λ x. refl; fails = h })
 
 -- what a stop says of the byte and the stack
-step_apart : (x : Step) (l : List Frame) (c : Cause) → x ≡ go l → x ≡ stop c → ⊥
-step_apart x l c p q = let z : ◌≡◌ {A = ℕ} 0 1 = cc in omega arith
-
-ended_unexpected : (x : Step) → x ≡ stop Ended → x ≡ stop Unexpected → ⊥
-ended_unexpected x p q = let z : ◌≡◌ {A = ℕ} 0 1 = cc in omega arith
-
-ended_deep : (x : Step) → x ≡ stop Ended → x ≡ stop TooDeep → ⊥
-ended_deep x p q = let z : ◌≡◌ {A = ℕ} 0 1 = cc in omega arith
-
-deep_unexpected : (x : Step) → x ≡ stop TooDeep → x ≡ stop Unexpected → ⊥
-deep_unexpected x p q = let z : ◌≡◌ {A = ℕ} 0 1 = cc in omega arith
-
 never_ended_begin : (s a b : ℕ) (k : List Frame) → begin s a b k ≡ stop Ended → ⊥
 never_ended_begin s a b k e = by (begins s a b k)
   where
     by : Begins s a b k → ⊥
-    by (is_code h g) = step_apart (begin s a b k) _ Ended g e
-    by (is_maybe q g) = step_apart (begin s a b k) _ Ended g e
-    by (is_array q h g) = step_apart (begin s a b k) _ Ended g e
-    by (is_structure q h g) = step_apart (begin s a b k) _ Ended g e
-    by (is_deep q g) = ended_deep (begin s a b k) e g
-    by (is_other p q g) = ended_unexpected (begin s a b k) e g
+    by (is_code h g) = cc
+    by (is_maybe q g) = cc
+    by (is_array q h g) = cc
+    by (is_structure q h g) = cc
+    by (is_deep q g) = cc
+    by (is_other p q g) = cc
 
 deep_begin : (s a b : ℕ) (k : List Frame) → begin s a b k ≡ stop TooDeep → (b ≡ 97) ⊎ (b ≡ 40)
 deep_begin s a b k e = by (begins s a b k)
   where
     by : Begins s a b k → (b ≡ 97) ⊎ (b ≡ 40)
-    by (is_code h g) = absurd (step_apart (begin s a b k) _ TooDeep g e)
-    by (is_maybe q g) = absurd (step_apart (begin s a b k) _ TooDeep g e)
-    by (is_array q h g) = absurd (step_apart (begin s a b k) _ TooDeep g e)
-    by (is_structure q h g) = absurd (step_apart (begin s a b k) _ TooDeep g e)
+    by (is_code h g) = cc
+    by (is_maybe q g) = cc
+    by (is_array q h g) = cc
+    by (is_structure q h g) = cc
     by (is_deep q g) = q
-    by (is_other p q g) = absurd (deep_unexpected (begin s a b k) e g)
+    by (is_other p q g) = cc
 
 unexpected_begin : (s a b : ℕ) (k : List Frame) → begin s a b k ≡ stop Unexpected → (b ≡ 97) ⊎ (b ≡ 40) → ⊥
 unexpected_begin s a b k e o = by (begins s a b k)
   where
     by : Begins s a b k → ⊥
-    by (is_code h g) = step_apart (begin s a b k) _ Unexpected g e
-    by (is_maybe q g) = step_apart (begin s a b k) _ Unexpected g e
-    by (is_array q h g) = step_apart (begin s a b k) _ Unexpected g e
-    by (is_structure q h g) = step_apart (begin s a b k) _ Unexpected g e
-    by (is_deep q g) = deep_unexpected (begin s a b k) g e
+    by (is_code h g) = cc
+    by (is_maybe q g) = cc
+    by (is_array q h g) = cc
+    by (is_structure q h g) = cc
+    by (is_deep q g) = cc
     by (is_other p q g) = elim o [ inl x ↦ p x | inr x ↦ q x ]
 
 -- a stack's first byte: a type's, where one may begin, or another
@@ -154,29 +133,28 @@ never_ended k b e = by (first k b)
   where
     by : Top k b → ⊥
     by (opening s a l h g) = never_ended_begin s a b l (sym h ∙ e)
-    by (goes l h) = step_apart (step k b) l Ended h e
-    by (closes h g) = ended_unexpected (step k b) e h
+    by (goes l h) = cc
+    by (closes h g) = cc
 
 deep_opens : (k : List Frame) (b : ℕ) → step k b ≡ stop TooDeep → ((b ≡ 97) ⊎ (b ≡ 40)) × ((l : List Frame) × (step k 121 ≡ go l))
 deep_opens k b e = by (first k b)
   where
     by : Top k b → ((b ≡ 97) ⊎ (b ≡ 40)) × ((l : List Frame) × (step k 121 ≡ go l))
     by (opening s a l h g) = (deep_begin s a b l (sym h ∙ e), (l, g))
-    by (goes l h) = absurd (step_apart (step k b) l TooDeep h e)
-    by (closes h g) = absurd (deep_unexpected (step k b) e h)
+    by (goes l h) = cc
+    by (closes h g) = cc
 
 unexpected_all : (k : List Frame) (b : ℕ) → step k b ≡ stop Unexpected → (b ≡ 97) ⊎ (b ≡ 40) → (x : ℕ) → (x ≡ 125 → ⊥) → step k x ≡ stop Unexpected
 unexpected_all k b e o x n = by (first k b)
   where
     by : Top k b → step k x ≡ stop Unexpected
     by (opening s a l h g) = absurd (unexpected_begin s a b l (sym h ∙ e) o)
-    by (goes l h) = absurd (step_apart (step k b) l Unexpected h e)
+    by (goes l h) = cc
     by (closes h g) = g x n
 
 -- a text that goes on from where a run broke off, by a byte at which it stops, is not valid
 dead : (before y : Text) (k : List Frame) (b : ℕ) (c : Cause) → ((x : Text) → run (top) (before ++ x) ≡ run k x) → step k b ≡ stop c → Valid (before ++ (b ∷ y)) → ⊥
-dead before y k b c reach h v =
-    bad_good c (b ∷ y) (sym (run_stop k b c y h) ∙ sym (reach (b ∷ y)) ∙ valid_good (before ++ (b ∷ y)) v)
+dead before y k b c reach h v = cc (run_stop k b c y h, reach (b ∷ y), valid_good (before ++ (b ∷ y)) v)
 
 begun : (before : Text) (k l : List Frame) → ((x : Text) → run (top) (before ++ x) ≡ run k x) → step k 121 ≡ go l → Start (before ++ 121 ∷ [])
 begun before k l reach h = let x = finish l in
@@ -185,18 +163,6 @@ begun before k l reach h = let x = finish l in
 y : Shape
 unfolding is_basic
 y = basic 121 refl
-
-nil_cons : (b : ℕ) (r : Text) → ◌≡◌ {A = Text} [] (b ∷ r) → ⊥
-nil_cons b r p = let z : ◌≡◌ {A = ℕ} 0 1 = cc in omega arith
-
-ended_not_deep : (c : Cause) → c ≡ Ended → c ≡ TooDeep → ⊥
-ended_not_deep c p q = let z : ◌≡◌ {A = ℕ} 0 1 = cc in omega arith
-
-ended_not_unexpected : (c : Cause) → c ≡ Ended → c ≡ Unexpected → ⊥
-ended_not_unexpected c p q = let z : ◌≡◌ {A = ℕ} 0 1 = cc in omega arith
-
-head_is : (b d : ℕ) (r s : Text) → b ∷ r ≡ d ∷ s → b ≡ d
-head_is b d r s e = cc
 
 module _ (w : Text) (n : ℕ) (within : n ≤ length w) (before : Text) (k : List Frame)
     (is-take : take n w ≡ before) (reach : (x : Text) → run (top) (before ++ x) ≡ run k x)
@@ -208,7 +174,7 @@ module _ (w : Text) (n : ℕ) (within : n ≤ length w) (before : Text) (k : Lis
   short b r e = omega (arith, ap length e, length-drop n w)
 
   byte : (b : ℕ) (r : Text) → drop n w ≡ b ∷ r → get_or w n 0 ≡ b
-  byte b r e = head_is (get_or w n 0) b (drop (suc n) w) r (sym (here (short b r e)) ∙ e)
+  byte b r e = cc (here (short b r e))
 
   starts : Start (take n w)
   starts = let x = finish k in
@@ -233,8 +199,8 @@ module _ (w : Text) (n : ℕ) (within : n ≤ length w) (before : Text) (k : Lis
   because : (c : Cause) (r : Text) → drop n w ≡ r → Fails k c r → Because w n c
   unfolding y
   because Ended [] e f = omega (arith, ap length e, length-drop n w)
-  because TooDeep [] e f = absurd (ended_not_deep TooDeep f refl)
-  because Unexpected [] e f = absurd (ended_not_unexpected Unexpected f refl)
+  because TooDeep [] e f = cc
+  because Unexpected [] e f = cc
   because Ended (b ∷ r) e f = absurd (never_ended k b f)
   because TooDeep (b ∷ r) e f = let o = deep_opens k b f in
       (short b r e, record { opens = rw (byte b r e) o.0; shape = y; begins = rw is-take (begun before k o.1.0 reach o.1.1); alone = loose b r e o.0 f })
@@ -253,7 +219,7 @@ is_fault w c n within e =
     let long : length s.before ≡ n = omega (arith, ap length s.text, length-append s.before (drop n w), length-drop n w) in
     let is-take : take n w ≡ s.before = ap (λ (x : Text). take n x) s.text ∙ take_at s.before (drop n w) n long in
     record {
-      invalid = λ v. bad_good c (drop n w) (sym e ∙ valid_good w v);
+      invalid = λ v. cc (valid_good w v);
       place = record { within = within; start = starts w n within s.before s.stack is-take s.reach s.raised; longest = longest w n within s.before s.stack is-take s.reach s.raised c (drop n w) refl s.fails };
       because = because w n within s.before s.stack is-take s.reach s.raised c (drop n w) refl s.fails;
     }
@@ -294,7 +260,7 @@ unfolding fault
 scans w f e = by (run top w) refl e
   where
     by : (v : Verdict) → run top w ≡ v → fault_by w v ≡ some f → FaultOf w f
-    by good h g = let z : ◌≡◌ {A = ℕ} 0 1 = cc in absurd (omega arith)
+    by good h g = cc
     by (bad c r) h g =
         let same : record { cause = c; place = length w - length r } ≡ f = cc in
         subst (λ (x : Fault). FaultOf w x) same (is_fault w c (length w - length r) (omega arith) (h ∙ ap (λ (x : Text). bad c x) (left_is w r c h)))
@@ -305,7 +271,7 @@ scans_valid w e = by (run top w) refl e
   where
     by : (v : Verdict) → run top w ≡ v → fault_by w v ≡ none → Valid w
     by good h g = good_valid w h
-    by (bad c r) h g = let z : ◌≡◌ {A = ℕ} 0 1 = cc in absurd (omega arith)
+    by (bad c r) h g = cc
 
 pub valid_scans : (w : Text) → Valid w → fault w ≡ none
 unfolding fault
