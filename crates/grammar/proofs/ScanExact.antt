@@ -70,39 +70,22 @@ stuck (b ∷ w) k c r e = stuck_by b w k c r e (stuck w) (step k b) refl
     stuck_by b w k c r e ih (stop d) h =
         moved k (b ∷ w) d c (b ∷ w) r (sym (run_stop k b d w h) ∙ e) (record { before = []; stack = k; text = refl; reach = λ x. refl; raised = λ x. refl; fails = h })
 
--- what a stop says of the byte and the stack
-never_ended_begin : (s a b : ℕ) (k : List Frame) → begin s a b k ≡ stop Ended → ⊥
-never_ended_begin s a b k e = by (begins s a b k)
-  where
-    by : Begins s a b k → ⊥
-    by (is_code h g) = cc
-    by (is_maybe q g) = cc
-    by (is_array q h g) = cc
-    by (is_structure q h g) = cc
-    by (is_deep q g) = cc
-    by (is_other p q g) = cc
+-- what a stop says of the byte
+abbrev Stops : ℕ → Cause → Type 0
+Stops b Ended = ⊥
+Stops b TooDeep = (b ≡ 97) ⊎ (b ≡ 40)
+Stops b Unexpected = (b ≡ 97) ⊎ (b ≡ 40) → ⊥
 
-deep_begin : (s a b : ℕ) (k : List Frame) → begin s a b k ≡ stop TooDeep → (b ≡ 97) ⊎ (b ≡ 40)
-deep_begin s a b k e = by (begins s a b k)
+stops : (s a b : ℕ) (k : List Frame) (c : Cause) → begin s a b k ≡ stop c → Stops b c
+stops s a b k c e = by (begins s a b k)
   where
-    by : Begins s a b k → (b ≡ 97) ⊎ (b ≡ 40)
+    by : Begins s a b k → Stops b c
     by (is_code h g) = cc
     by (is_maybe q g) = cc
     by (is_array q h g) = cc
     by (is_structure q h g) = cc
-    by (is_deep q g) = q
-    by (is_other p q g) = cc
-
-unexpected_begin : (s a b : ℕ) (k : List Frame) → begin s a b k ≡ stop Unexpected → (b ≡ 97) ⊎ (b ≡ 40) → ⊥
-unexpected_begin s a b k e o = by (begins s a b k)
-  where
-    by : Begins s a b k → ⊥
-    by (is_code h g) = cc
-    by (is_maybe q g) = cc
-    by (is_array q h g) = cc
-    by (is_structure q h g) = cc
-    by (is_deep q g) = cc
-    by (is_other p q g) = elim o [ inl x ↦ p x | inr x ↦ q x ]
+    by (is_deep q g) = let z : TooDeep ≡ c = cc in subst (Stops b) z q
+    by (is_other p q g) = let z : Unexpected ≡ c = cc in subst (Stops b) z (λ o. elim o [ inl x ↦ p x | inr x ↦ q x ])
 
 -- a stack's first byte: a type's, where one may begin, or another
 data Top (k : List Frame) (b : ℕ) : Type 0 where
@@ -132,7 +115,7 @@ never_ended : (k : List Frame) (b : ℕ) → step k b ≡ stop Ended → ⊥
 never_ended k b e = by (first k b)
   where
     by : Top k b → ⊥
-    by (opening s a l h g) = never_ended_begin s a b l (sym h ∙ e)
+    by (opening s a l h g) = stops s a b l Ended (sym h ∙ e)
     by (goes l h) = cc
     by (closes h g) = cc
 
@@ -140,7 +123,7 @@ deep_opens : (k : List Frame) (b : ℕ) → step k b ≡ stop TooDeep → ((b �
 deep_opens k b e = by (first k b)
   where
     by : Top k b → ((b ≡ 97) ⊎ (b ≡ 40)) × ((l : List Frame) × (step k 121 ≡ go l))
-    by (opening s a l h g) = (deep_begin s a b l (sym h ∙ e), (l, g))
+    by (opening s a l h g) = (stops s a b l TooDeep (sym h ∙ e), (l, g))
     by (goes l h) = cc
     by (closes h g) = cc
 
@@ -148,7 +131,7 @@ unexpected_all : (k : List Frame) (b : ℕ) → step k b ≡ stop Unexpected →
 unexpected_all k b e o x n = by (first k b)
   where
     by : Top k b → step k x ≡ stop Unexpected
-    by (opening s a l h g) = absurd (unexpected_begin s a b l (sym h ∙ e) o)
+    by (opening s a l h g) = absurd (stops s a b l Unexpected (sym h ∙ e) o)
     by (goes l h) = cc
     by (closes h g) = g x n
 
