@@ -22,19 +22,15 @@ pub good_valid : (w : Text) → run (top) w ≡ good → Valid w
 good_valid w e = let r = sound w (top) e in
     record { shapes = r.shapes; few_structures = r.few_structures; few_arrays = r.few_arrays; text = r.text ∙ rw r.then (append-nil _) }
 
-run_none : run [] [] ≡ good
-unfolding run final
-run_none = refl
-
 -- each stack has a text
 pub finish : (k : List Frame) → (x : Text) × (run k x ≡ good)
-unfolding is_basic
-finish [] = ([], run_none)
-finish (types s a ∷ k) = ([], run_good s a k)
-finish (one s a ∷ k) = let x = finish k in (121 ∷ x.0, run_next (one s a ∷ k) 121 k x.0 (step_one s a 121 k ∙ begin_basic s a 121 k refl) ∙ x.1)
-finish (others s a ∷ k) = let x = finish k in (41 ∷ x.0, run_next (others s a ∷ k) 41 k x.0 (step_others_end s a k) ∙ x.1)
-finish (element s a ∷ k) = let x = finish k in (121 ∷ x.0, run_next (element s a ∷ k) 121 k x.0 (step_element s a 121 k (omega arith) ∙ begin_basic s a 121 k refl) ∙ x.1)
-finish (close ∷ k) = let x = finish k in (125 ∷ x.0, run_next (close ∷ k) 125 k x.0 (step_close k) ∙ x.1)
+unfolding run final step begin is_basic
+finish [] = ([], refl)
+finish (types s a ∷ k) = ([], refl)
+finish (one s a ∷ k) = let x = finish k in (121 ∷ x.0, x.1)
+finish (others s a ∷ k) = let x = finish k in (41 ∷ x.0, x.1)
+finish (element s a ∷ k) = let x = finish k in (121 ∷ x.0, x.1)
+finish (close ∷ k) = let x = finish k in (125 ∷ x.0, x.1)
 
 abbrev Fails : List Frame → Cause → Text → Type 0
 Fails k c [] = c ≡ Ended
@@ -56,12 +52,13 @@ ends : (k : List Frame) (c : Cause) (r : Text) → bad Ended [] ≡ bad c r → 
 ends k c r e = moved k [] Ended c [] r e (record { before = []; stack = k; text = refl; reach = λ x. refl; raised = λ x. refl; fails = refl })
 
 pub stuck : (w : Text) (k : List Frame) (c : Cause) (r : Text) → run k w ≡ bad c r → Stuck k w c r
-stuck [] [] c r e = cc run_none
-stuck [] (types s a ∷ k) c r e = cc (run_good s a k)
-stuck [] (one s a ∷ k) c r e = ends (one s a ∷ k) c r (sym (run_one s a k) ∙ e)
-stuck [] (others s a ∷ k) c r e = ends (others s a ∷ k) c r (sym (run_others s a k) ∙ e)
-stuck [] (element s a ∷ k) c r e = ends (element s a ∷ k) c r (sym (run_element s a k) ∙ e)
-stuck [] (close ∷ k) c r e = ends (close ∷ k) c r (sym (run_close k) ∙ e)
+unfolding run final
+stuck [] [] c r e = cc
+stuck [] (types s a ∷ k) c r e = cc
+stuck [] (one s a ∷ k) c r e = ends (one s a ∷ k) c r e
+stuck [] (others s a ∷ k) c r e = ends (others s a ∷ k) c r e
+stuck [] (element s a ∷ k) c r e = ends (element s a ∷ k) c r e
+stuck [] (close ∷ k) c r e = ends (close ∷ k) c r e
 stuck (b ∷ w) k c r e = stuck_by b w k c r e (stuck w) (step k b) refl
   where
     stuck_by : (b : ℕ) (w : Text) (k : List Frame) (c : Cause) (r : Text) → run k (b ∷ w) ≡ bad c r → ((l : List Frame) (d : Cause) (s : Text) → run l w ≡ bad d s → Stuck l w d s) → (x : Step) → step k b ≡ x → Stuck k (b ∷ w) c r
@@ -94,22 +91,13 @@ data Top (k : List Frame) (b : ℕ) : Type 0 where
   closes : step k b ≡ stop Unexpected → ((x : ℕ) → (x ≡ 125 → ⊥) → step k x ≡ stop Unexpected) → Top k b
 
 first : (k : List Frame) (b : ℕ) → Top k b
-unfolding is_basic
-first [] b = closes (step_none b) (λ x h. step_none x)
-first (types s a ∷ k) b = opening s a (types s a ∷ k) (step_types s a b k) (step_types s a 121 k ∙ begin_basic s a 121 (types s a ∷ k) refl)
-first (one s a ∷ k) b = opening s a k (step_one s a b k) (step_one s a 121 k ∙ begin_basic s a 121 k refl)
-first (others s a ∷ k) b = elim (cases_eq b 41) [
-  | inl q ↦ goes k (rw q (step_others_end s a k))
-  | inr q ↦ opening s a (others s a ∷ k) (step_others s a b k q) (step_others s a 121 k (omega arith) ∙ begin_basic s a 121 (others s a ∷ k) refl)
-]
-first (element s a ∷ k) b = elim (cases_eq b 123) [
-  | inl q ↦ goes (one s a ∷ one s a ∷ close ∷ k) (rw q (step_element_pair s a k))
-  | inr q ↦ opening s a k (step_element s a b k q) (step_element s a 121 k (omega arith) ∙ begin_basic s a 121 k refl)
-]
-first (close ∷ k) b = elim (cases_eq b 125) [
-  | inl q ↦ goes k (rw q (step_close k))
-  | inr q ↦ closes (step_close_not b k q) (λ x h. step_close_not x k h)
-]
+unfolding step begin is_basic
+first [] b = closes refl (λ x h. refl)
+first (types s a ∷ k) b = opening s a (types s a ∷ k) refl refl
+first (one s a ∷ k) b = opening s a k refl refl
+first (others s a ∷ k) b = elim (cases_eq b 41) [ inl q ↦ goes k (rw q) | inr q ↦ opening s a (others s a ∷ k) (step_others s a b k q) refl ]
+first (element s a ∷ k) b = elim (cases_eq b 123) [ inl q ↦ goes (one s a ∷ one s a ∷ close ∷ k) (rw q) | inr q ↦ opening s a k (step_element s a b k q) refl ]
+first (close ∷ k) b = elim (cases_eq b 125) [ inl q ↦ goes k (rw q) | inr q ↦ closes (step_close_not b k q) (λ x h. step_close_not x k h) ]
 
 never_ended : (k : List Frame) (b : ℕ) → step k b ≡ stop Ended → ⊥
 never_ended k b e = by (first k b)

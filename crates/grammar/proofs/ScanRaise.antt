@@ -26,18 +26,19 @@ raise_begin s a b k l e = by (begins s a b k)
     by (is_other p q g) = cc
 
 pub raise_step : (k : List Frame) (b : ℕ) (l : List Frame) → step k b ≡ go l → step (raise k) b ≡ go (raise l)
-raise_step [] b l e = cc (step_none b)
-raise_step (one s a ∷ k) b l e = step_one (s + 1) (a + 1) b (raise k) ∙ raise_begin s a b k l (sym (step_one s a b k) ∙ e)
-raise_step (types s a ∷ k) b l e = step_types (s + 1) (a + 1) b (raise k) ∙ raise_begin s a b (types s a ∷ k) l (sym (step_types s a b k) ∙ e)
+unfolding step
+raise_step [] b l e = cc
+raise_step (one s a ∷ k) b l e = raise_begin s a b k l e
+raise_step (types s a ∷ k) b l e = raise_begin s a b (types s a ∷ k) l e
 raise_step (others s a ∷ k) b l e = elim (cases_eq b 41) [
-  | inl q ↦ cc (step_others_end (s + 1) (a + 1) (raise k), step_others_end s a k)
+  | inl q ↦ cc
   | inr q ↦ step_others (s + 1) (a + 1) b (raise k) q ∙ raise_begin s a b (others s a ∷ k) l (sym (step_others s a b k q) ∙ e)
 ]
 raise_step (element s a ∷ k) b l e = elim (cases_eq b 123) [
-  | inl q ↦ cc (step_element_pair (s + 1) (a + 1) (raise k), step_element_pair s a k)
+  | inl q ↦ cc
   | inr q ↦ step_element (s + 1) (a + 1) b (raise k) q ∙ raise_begin s a b k l (sym (step_element s a b k q) ∙ e)
 ]
-raise_step (close ∷ k) b l e = elim (cases_eq b 125) [ inl q ↦ cc (step_close (raise k), step_close k) | inr q ↦ cc (step_close_not b k q) ]
+raise_step (close ∷ k) b l e = elim (cases_eq b 125) [ inl q ↦ cc | inr q ↦ cc (step_close_not b k q) ]
 
 opens : (s a b : ℕ) (k : List Frame) → (b ≡ 97) ⊎ (b ≡ 40) → (l : List Frame) × (begin (s + 1) (a + 1) b k ≡ go l)
 opens s a b k o = elim o [
@@ -47,9 +48,10 @@ opens s a b k o = elim o [
 
 -- what only the depth forbids is allowed then
 pub raise_deep : (k : List Frame) (b : ℕ) → (b ≡ 97) ⊎ (b ≡ 40) → step k b ≡ stop TooDeep → (l : List Frame) × (step (raise k) b ≡ go l)
-raise_deep [] b o e = cc (step_none b)
-raise_deep (one s a ∷ k) b o e = let x = opens s a b (raise k) o in (x.0, step_one (s + 1) (a + 1) b (raise k) ∙ x.1)
-raise_deep (types s a ∷ k) b o e = let x = opens s a b (raise (types s a ∷ k)) o in (x.0, step_types (s + 1) (a + 1) b (raise k) ∙ x.1)
+unfolding step
+raise_deep [] b o e = cc
+raise_deep (one s a ∷ k) b o e = opens s a b (raise k) o
+raise_deep (types s a ∷ k) b o e = opens s a b (raise (types s a ∷ k)) o
 raise_deep (others s a ∷ k) b o e = let x = opens s a b (raise (others s a ∷ k)) o in (x.0, step_others (s + 1) (a + 1) b (raise k) (omega arith) ∙ x.1)
 raise_deep (element s a ∷ k) b o e = let x = opens s a b (raise k) o in (x.0, step_element (s + 1) (a + 1) b (raise k) (omega arith) ∙ x.1)
 raise_deep (close ∷ k) b o e = cc (step_close_not b k (omega arith))

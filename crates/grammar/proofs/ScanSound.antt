@@ -5,7 +5,7 @@ use Rattle.grammar.specs.declared.error.Cause.{Cause}
 use Rattle.grammar.specs.declared.error.Cause.TheVariants.{Ended, TooDeep, Unexpected}
 use Rattle.grammar.specs.Shape.{Text, Shape, basic, array, dict, structure, maybe, Shapes, nil, more, printed, printed_all}
 use Rattle.grammar.specs.Depth.{structure_depth, structure_depths, array_depth, array_depths}
-use Rattle.grammar.specs.Scan.{Frame, one, others, element, close, types, Step, go, stop, good, bad, begin, step, run}
+use Rattle.grammar.specs.Scan.{Frame, one, others, element, close, types, Step, go, stop, good, bad, begin, step, final, run}
 use Rattle.grammar.proofs.ScanSteps.{run_next, run_stop, run_one, run_others, run_element, run_close, step_one, step_types, step_none, step_others, step_others_end, step_element, step_element_pair, step_close, step_close_not, Begins, begins, is_code, is_maybe, is_array, is_structure, is_deep, is_other}
 
 -- a text begins with a type, and then comes what R says
@@ -94,9 +94,10 @@ cons s a w R t = let ts = t.then in
     }
 
 back : (k : List Frame) (b : ℕ) (l : List Frame) (w : Text) → step k b ≡ go l → Reads l w → Reads k (b ∷ w)
-back [] b l w e r = cc (step_none b)
-back (types s a ∷ k) b l w e r = cons s a (b ∷ w) (λ v. v ≡ []) (back_begin s a b (types s a ∷ k) l w (sym (step_types s a b k) ∙ e) r)
-back (one s a ∷ k) b l w e r = back_begin s a b k l w (sym (step_one s a b k) ∙ e) r
+unfolding step
+back [] b l w e r = cc
+back (types s a ∷ k) b l w e r = cons s a (b ∷ w) (λ v. v ≡ []) (back_begin s a b (types s a ∷ k) l w e r)
+back (one s a ∷ k) b l w e r = back_begin s a b k l w e r
 back (others s a ∷ k) b l w e r = by (cases_eq b 41)
   where
     by : (b ≡ 41) ⊎ (b ≡ 41 → ⊥) → Reads (others s a ∷ k) (b ∷ w)
@@ -106,27 +107,28 @@ back (others s a ∷ k) b l w e r = by (cases_eq b 41)
       few_arrays = omega arith;
       tail = b ∷ w;
       text = refl;
-      then = record { tail = w; text = rw q refl; then = let z : l ≡ k = cc (step_others_end s a k) in subst (λ (x : List Frame). Reads x w) z r };
+      then = record { tail = w; text = rw q refl; then = let z : l ≡ k = cc in subst (λ (x : List Frame). Reads x w) z r };
     }
     by (inr q) = cons s a (b ∷ w) (λ v. Next 41 v (Reads k)) (back_begin s a b (others s a ∷ k) l w (sym (step_others s a b k q) ∙ e) r)
 back (element s a ∷ k) b l w e r = by (cases_eq b 123)
   where
     by : (b ≡ 123) ⊎ (b ≡ 123 → ⊥) → Reads (element s a ∷ k) (b ∷ w)
-    by (inl q) = let z : l ≡ one s a ∷ one s a ∷ close ∷ k = cc (step_element_pair s a k) in of_dictionary s a b w (Reads k) q (subst (λ (x : List Frame). Reads x w) z r)
+    by (inl q) = let z : l ≡ one s a ∷ one s a ∷ close ∷ k = cc in of_dictionary s a b w (Reads k) q (subst (λ (x : List Frame). Reads x w) z r)
     by (inr q) = let t = back_begin s a b k l w (sym (step_element s a b k q) ∙ e) r in
         record { shape = array t.shape; few_structures = t.few_structures; few_arrays = omega (arith, t.few_arrays); tail = t.tail; text = ap (λ (x : Text). 97 ∷ x) t.text; then = t.then }
 back (close ∷ k) b l w e r = by (cases_eq b 125)
   where
     by : (b ≡ 125) ⊎ (b ≡ 125 → ⊥) → Reads (close ∷ k) (b ∷ w)
-    by (inl q) = record { tail = w; text = rw q refl; then = let z : l ≡ k = cc (step_close k) in subst (λ (x : List Frame). Reads x w) z r }
+    by (inl q) = record { tail = w; text = rw q refl; then = let z : l ≡ k = cc in subst (λ (x : List Frame). Reads x w) z r }
     by (inr q) = cc (step_close_not b k q)
 
 pub sound : (w : Text) (k : List Frame) → run k w ≡ good → Reads k w
+unfolding run final
 sound [] [] e = refl
-sound [] (one s a ∷ k) e = cc (run_one s a k)
-sound [] (others s a ∷ k) e = cc (run_others s a k)
-sound [] (element s a ∷ k) e = cc (run_element s a k)
-sound [] (close ∷ k) e = cc (run_close k)
+sound [] (one s a ∷ k) e = cc
+sound [] (others s a ∷ k) e = cc
+sound [] (element s a ∷ k) e = cc
+sound [] (close ∷ k) e = cc
 sound [] (types s a ∷ k) e = record { shapes = nil; few_structures = omega arith; few_arrays = omega arith; tail = []; text = refl; then = refl }
 sound (b ∷ w) k e = sound_by b w k e (sound w) (step k b) refl
   where
