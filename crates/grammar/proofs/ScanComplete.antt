@@ -1,6 +1,6 @@
 -- A shape's text is read to its end.
 use Rattle.std.proofs.Common.{◌≡◌, ℕ, ◌-◌, ◌≤◌, true, false, List, [], ◌∷◌, ◌++◌, sym, refl, ap, ◌∙◌, append_assoc, arith}
-use Rattle.std.proofs.lemmas.Bool.{lt-ltb}
+use Rattle.std.proofs.lemmas.Bool.{lt-ltb, ne_eqb}
 use Rattle.grammar.specs.Shape.{Text, is_basic, Shape, basic, array, dict, structure, maybe, Shapes, nil, more, printed, printed_all}
 use Rattle.grammar.specs.Depth.{structure_depth, structure_depths, array_depth, array_depths}
 use Rattle.grammar.specs.Scan.{Frame, one, others, element, close, types, good, begin, step, run}
@@ -9,16 +9,16 @@ use Rattle.grammar.proofs.ScanSteps.{run_next, run_same, run_good, begin_basic, 
 
 -- where a type may begin, a shape's text is read as a type
 pub at_others : (t : Shape) (s a : ℕ) (k : List Frame) (w : Text) → run (others s a ∷ k) (printed t ++ w) ≡ run (one s a ∷ others s a ∷ k) (printed t ++ w)
-at_others t s a k w = let f = head t in
-    rw f.text (run_same (others s a ∷ k) (one s a ∷ others s a ∷ k) f.byte (f.tail ++ w) (step_others s a f.byte k f.no_bracket ∙ sym (step_one s a f.byte (others s a ∷ k))))
+unfolding run step
+at_others t s a k w = let f = head t in rw (f.text, ne_eqb f.byte 41 f.no_bracket, run)
 
 pub at_element : (t : Shape) (s a : ℕ) (k : List Frame) (w : Text) → run (element s a ∷ k) (printed t ++ w) ≡ run (one s a ∷ k) (printed t ++ w)
-at_element t s a k w = let f = head t in
-    rw f.text (run_same (element s a ∷ k) (one s a ∷ k) f.byte (f.tail ++ w) (step_element s a f.byte k f.no_brace ∙ sym (step_one s a f.byte k)))
+unfolding run step
+at_element t s a k w = let f = head t in rw (f.text, ne_eqb f.byte 123 f.no_brace, run)
 
 pub at_types : (t : Shape) (s a : ℕ) (k : List Frame) (w : Text) → run (types s a ∷ k) (printed t ++ w) ≡ run (one s a ∷ types s a ∷ k) (printed t ++ w)
-at_types t s a k w = let f = head t in
-    rw f.text (run_same (types s a ∷ k) (one s a ∷ types s a ∷ k) f.byte (f.tail ++ w) (step_types s a f.byte k ∙ sym (step_one s a f.byte (types s a ∷ k))))
+unfolding run step
+at_types t s a k w = rw (head t).text
 
 mutual
   unfolding run step begin is_basic

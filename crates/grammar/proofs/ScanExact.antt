@@ -59,12 +59,12 @@ stuck [] (one s a ∷ k) c r e = ends (one s a ∷ k) c r e
 stuck [] (others s a ∷ k) c r e = ends (others s a ∷ k) c r e
 stuck [] (element s a ∷ k) c r e = ends (element s a ∷ k) c r e
 stuck [] (close ∷ k) c r e = ends (close ∷ k) c r e
-stuck (b ∷ w) k c r e = stuck_by b w k c r e (stuck w) (step k b) refl
+stuck (b ∷ w) k c r e = by (stuck w) (step k b) refl
   where
-    stuck_by : (b : ℕ) (w : Text) (k : List Frame) (c : Cause) (r : Text) → run k (b ∷ w) ≡ bad c r → ((l : List Frame) (d : Cause) (s : Text) → run l w ≡ bad d s → Stuck l w d s) → (x : Step) → step k b ≡ x → Stuck k (b ∷ w) c r
-    stuck_by b w k c r e ih (go l) h = let t = ih l c r (sym (run_next k b l w h) ∙ e) in
+    by : ((l : List Frame) (d : Cause) (s : Text) → run l w ≡ bad d s → Stuck l w d s) → (x : Step) → step k b ≡ x → Stuck k (b ∷ w) c r
+    by ih (go l) h = let t = ih l c r (sym (run_next k b l w h) ∙ e) in
         record { before = b ∷ t.before; stack = t.stack; text = ap (λ (x : Text). b ∷ x) t.text; reach = λ x. run_next k b l (t.before ++ x) h ∙ t.reach x; raised = λ x. run_next (raise k) b (raise l) (t.before ++ x) (raise_step k b l h) ∙ t.raised x; fails = t.fails }
-    stuck_by b w k c r e ih (stop d) h =
+    by ih (stop d) h =
         moved k (b ∷ w) d c (b ∷ w) r (sym (run_stop k b d w h) ∙ e) (record { before = []; stack = k; text = refl; reach = λ x. refl; raised = λ x. refl; fails = h })
 
 -- what a stop says of the byte

@@ -98,29 +98,26 @@ unfolding step
 back [] b l w e r = cc
 back (types s a ∷ k) b l w e r = cons s a (b ∷ w) (λ v. v ≡ []) (back_begin s a b (types s a ∷ k) l w e r)
 back (one s a ∷ k) b l w e r = back_begin s a b k l w e r
-back (others s a ∷ k) b l w e r = by (cases_eq b 41)
-  where
-    by : (b ≡ 41) ⊎ (b ≡ 41 → ⊥) → Reads (others s a ∷ k) (b ∷ w)
-    by (inl q) = record {
-      shapes = nil;
-      few_structures = omega arith;
-      few_arrays = omega arith;
-      tail = b ∷ w;
-      text = refl;
-      then = record { tail = w; text = rw q refl; then = let z : l ≡ k = cc in subst (λ (x : List Frame). Reads x w) z r };
-    }
-    by (inr q) = cons s a (b ∷ w) (λ v. Next 41 v (Reads k)) (back_begin s a b (others s a ∷ k) l w (sym (step_others s a b k q) ∙ e) r)
-back (element s a ∷ k) b l w e r = by (cases_eq b 123)
-  where
-    by : (b ≡ 123) ⊎ (b ≡ 123 → ⊥) → Reads (element s a ∷ k) (b ∷ w)
-    by (inl q) = let z : l ≡ one s a ∷ one s a ∷ close ∷ k = cc in of_dictionary s a b w (Reads k) q (subst (λ (x : List Frame). Reads x w) z r)
-    by (inr q) = let t = back_begin s a b k l w (sym (step_element s a b k q) ∙ e) r in
-        record { shape = array t.shape; few_structures = t.few_structures; few_arrays = omega (arith, t.few_arrays); tail = t.tail; text = ap (λ (x : Text). 97 ∷ x) t.text; then = t.then }
-back (close ∷ k) b l w e r = by (cases_eq b 125)
-  where
-    by : (b ≡ 125) ⊎ (b ≡ 125 → ⊥) → Reads (close ∷ k) (b ∷ w)
-    by (inl q) = record { tail = w; text = rw q refl; then = let z : l ≡ k = cc in subst (λ (x : List Frame). Reads x w) z r }
-    by (inr q) = cc (step_close_not b k q)
+back (others s a ∷ k) b l w e r = elim (cases_eq b 41) [
+  | inl q ↦ record {
+    shapes = nil;
+    few_structures = omega arith;
+    few_arrays = omega arith;
+    tail = b ∷ w;
+    text = refl;
+    then = record { tail = w; text = rw q refl; then = let z : l ≡ k = cc in subst (λ (x : List Frame). Reads x w) z r };
+  }
+  | inr q ↦ cons s a (b ∷ w) (λ v. Next 41 v (Reads k)) (back_begin s a b (others s a ∷ k) l w (sym (step_others s a b k q) ∙ e) r)
+]
+back (element s a ∷ k) b l w e r = elim (cases_eq b 123) [
+  | inl q ↦ let z : l ≡ one s a ∷ one s a ∷ close ∷ k = cc in of_dictionary s a b w (Reads k) q (subst (λ (x : List Frame). Reads x w) z r)
+  | inr q ↦ let t = back_begin s a b k l w (sym (step_element s a b k q) ∙ e) r in
+      record { shape = array t.shape; few_structures = t.few_structures; few_arrays = omega (arith, t.few_arrays); tail = t.tail; text = ap (λ (x : Text). 97 ∷ x) t.text; then = t.then }
+]
+back (close ∷ k) b l w e r = elim (cases_eq b 125) [
+  | inl q ↦ record { tail = w; text = rw q refl; then = let z : l ≡ k = cc in subst (λ (x : List Frame). Reads x w) z r }
+  | inr q ↦ cc (step_close_not b k q)
+]
 
 pub sound : (w : Text) (k : List Frame) → run k w ≡ good → Reads k w
 unfolding run final
@@ -130,8 +127,8 @@ sound [] (others s a ∷ k) e = cc
 sound [] (element s a ∷ k) e = cc
 sound [] (close ∷ k) e = cc
 sound [] (types s a ∷ k) e = record { shapes = nil; few_structures = omega arith; few_arrays = omega arith; tail = []; text = refl; then = refl }
-sound (b ∷ w) k e = sound_by b w k e (sound w) (step k b) refl
+sound (b ∷ w) k e = by (sound w) (step k b) refl
   where
-    sound_by : (b : ℕ) (w : Text) (k : List Frame) → run k (b ∷ w) ≡ good → ((l : List Frame) → run l w ≡ good → Reads l w) → (x : Step) → step k b ≡ x → Reads k (b ∷ w)
-    sound_by b w k e ih (go l) h = back k b l w h (ih l (sym (run_next k b l w h) ∙ e))
-    sound_by b w k e ih (stop c) h = cc (run_stop k b c w h)
+    by : ((l : List Frame) → run l w ≡ good → Reads l w) → (x : Step) → step k b ≡ x → Reads k (b ∷ w)
+    by ih (go l) h = back k b l w h (ih l (sym (run_next k b l w h) ∙ e))
+    by ih (stop c) h = cc (run_stop k b c w h)
