@@ -23,11 +23,7 @@ head (structure t ts) = record { byte = 40; tail = printed t ++ (printed_all ts 
 head (maybe t) = record { byte = 109; tail = printed t; text = refl; no_bracket = omega arith; no_brace = omega arith; no_end = omega arith }
 
 pub long : (t : Shape) → 1 ≤ length (printed t)
-long (basic c h) = omega arith
-long (array t) = omega arith
-long (dict k v) = omega arith
-long (structure t ts) = omega arith
-long (maybe t) = omega arith
+long t = omega (arith, ap length (head t).text)
 
 front_code : (c : ℕ) (h : is_basic c ≡ true) (w : Text) → front (c ∷ w) ≡ code c h w
 unfolding front

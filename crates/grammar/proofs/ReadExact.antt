@@ -68,23 +68,9 @@ body n (dicts v) = then (read_type n v) (λ k u. then (read_type n u) (λ x y. c
 body n (structures v) = then (read_type n v) (λ t u. then (read_rest n u) (λ ts y. some (structure t ts, y)))
 body n nothing = none
 
-is_body : (n : ℕ) (w : Text) (f : Front) → front w ≡ f → read_type (suc n) w ≡ body n f
-unfolding read_type
-is_body n w (code c h v) e = rw (e, read_type)
-is_body n w (arrays v) e = rw (e, read_type)
-is_body n w (maybes v) e = rw (e, read_type)
-is_body n w (dicts v) e = rw (e, read_type)
-is_body n w (structures v) e = rw (e, read_type)
-is_body n w nothing e = rw (e, read_type)
-
 abbrev rest : ℕ → Text → Option Text → Found Shapes
 rest n w (some v) = some (nil, v)
 rest n w none = then (read_type n w) (λ t u. then (read_rest n u) (λ ts y. some (more t ts, y)))
-
-is_rest : (n : ℕ) (w : Text) (o : Option Text) → closing w ≡ o → read_rest (suc n) w ≡ rest n w o
-unfolding read_rest
-is_rest n w none e = rw (e, read_rest)
-is_rest n w (some v) e = rw (e, read_rest)
 
 abbrev Back : ℕ → Type 0
 Back n = (w : Text) (s : Shape) (v : Text) → read_type n w ≡ some (s, v) → w ≡ printed s ++ v
@@ -125,8 +111,8 @@ both : (n : ℕ) → Back n × Backs n
 unfolding read_type read_rest
 both zero = (λ w s v e. cc, λ w ts v e. cc)
 both (suc n) = let i = both n in (
-  λ w s v e. back_body n i.0 i.1 w (front w) (says w) s v (sym (is_body n w (front w) refl) ∙ e),
-  λ w ts v e. back_rest n i.0 i.1 w (closing w) refl ts v (sym (is_rest n w (closing w) refl) ∙ e),
+  λ w s v e. back_body n i.0 i.1 w (front w) (says w) s v e,
+  λ w ts v e. back_rest n i.0 i.1 w (closing w) refl ts v e,
 )
 
 pub read_is : (w : Text) (s : Shape) → reading w ≡ some s → w ≡ printed s
@@ -147,29 +133,19 @@ abbrev row : ℕ → Found Shape → Option Shapes
 row n none = none
 row n (some r) = joined r.0 (read_types n r.1)
 
-is_joined : (n b : ℕ) (w : Text) (r : Shape × Text) (o : Option Shapes) → read_type n (b ∷ w) ≡ some r → read_types n r.1 ≡ o → read_types (suc n) (b ∷ w) ≡ joined r.0 o
-unfolding read_types
-is_joined n b w r none e f = rw (e, read_types) (rw f)
-is_joined n b w r (some ts) e f = rw (e, read_types) (rw f)
-
-is_row : (n b : ℕ) (w : Text) (o : Found Shape) → read_type n (b ∷ w) ≡ o → read_types (suc n) (b ∷ w) ≡ row n o
-unfolding read_types
-is_row n b w none e = rw (e, read_types)
-is_row n b w (some r) e = is_joined n b w r (read_types n r.1) e refl
-
 tops : (n : ℕ) (w : Text) (ts : Shapes) → read_types n w ≡ some ts → w ≡ printed_all ts
 unfolding read_types
 tops n [] ts e = cc
 tops zero (b ∷ w) ts e = cc
-tops (suc n) (b ∷ w) ts e = by (λ u us. tops n u us) (read_type n (b ∷ w)) refl
+tops (suc n) (b ∷ w) ts e = by (λ u us. tops n u us) (read_type n (b ∷ w)) refl e
   where
     next : ((u : Text) (us : Shapes) → read_types n u ≡ some us → u ≡ printed_all us) → (t : Shape) (u : Text) → read_type n (b ∷ w) ≡ some (t, u) → (o : Option Shapes) → read_types n u ≡ o → joined t o ≡ some ts → b ∷ w ≡ printed_all ts
     next i t u h none g f = cc
     next i t u h (some us) g f = cc ((both n).0 (b ∷ w) t u h, i u us g)
 
-    by : ((u : Text) (us : Shapes) → read_types n u ≡ some us → u ≡ printed_all us) → (o : Found Shape) → read_type n (b ∷ w) ≡ o → b ∷ w ≡ printed_all ts
-    by i none h = cc (is_row n b w none h)
-    by i (some (t, u)) h = next i t u h (read_types n u) refl (sym (is_row n b w (some (t, u)) h) ∙ e)
+    by : ((u : Text) (us : Shapes) → read_types n u ≡ some us → u ≡ printed_all us) → (o : Found Shape) → read_type n (b ∷ w) ≡ o → row n o ≡ some ts → b ∷ w ≡ printed_all ts
+    by i none h f = cc
+    by i (some (t, u)) h f = next i t u h (read_types n u) refl f
 
 pub read_all_is : (w : Text) (ts : Shapes) → read_all w ≡ some ts → w ≡ printed_all ts
 unfolding read_all

@@ -204,12 +204,12 @@ one_place w j k p q = elim (cases_lt j k) [
 
 one_cause : (w : Text) (k : ℕ) (c d : Cause) → Because w k c → Because w k d → c ≡ d
 one_cause w k Ended Ended p q = refl
-one_cause w k Ended TooDeep p q = absurd (omega (arith, p, q.0))
-one_cause w k Ended Unexpected p q = absurd (omega (arith, p, q.0))
-one_cause w k TooDeep Ended p q = absurd (omega (arith, q, p.0))
+one_cause w k Ended TooDeep p q = absurd (omega arith)
+one_cause w k Ended Unexpected p q = absurd (omega arith)
+one_cause w k TooDeep Ended p q = absurd (omega arith)
 one_cause w k TooDeep TooDeep p q = refl
 one_cause w k TooDeep Unexpected p q = absurd (q.1 p.1)
-one_cause w k Unexpected Ended p q = absurd (omega (arith, q, p.0))
+one_cause w k Unexpected Ended p q = absurd (omega arith)
 one_cause w k Unexpected TooDeep p q = absurd (p.1 q.1)
 one_cause w k Unexpected Unexpected p q = refl
 
