@@ -1,10 +1,10 @@
 -- No shape's text is the start of another's.
-use Rattle.std.proofs.Common.{◌≡◌, ℕ, max, [], ◌∷◌, ◌++◌, sym, refl, ap, ◌∙◌, append_assoc, append-nil, arith}
+use Rattle.std.proofs.Common.{◌≡◌, ℕ, max, [], ◌∷◌, ◌++◌, refl, ap, append_assoc, append-nil, arith}
 use Rattle.grammar.specs.declared.error.Cause.TheVariants.{Unexpected}
-use Rattle.grammar.specs.Shape.{Text, Shape, printed, printed_all}
+use Rattle.grammar.specs.Shape.{Text, Shape, printed}
 use Rattle.grammar.specs.Laws.{PrefixFree, BareStructure}
 use Rattle.grammar.specs.Depth.{structure_depth, array_depth}
-use Rattle.grammar.specs.Scan.{one, Verdict, good, bad, run, final}
+use Rattle.grammar.specs.Scan.{Verdict, good, bad, run, final}
 use Rattle.grammar.proofs.ScanSteps.{run_stop, step_none}
 use Rattle.grammar.proofs.ScanComplete.{complete}
 

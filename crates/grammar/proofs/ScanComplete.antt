@@ -1,11 +1,11 @@
 -- A shape's text is read to its end.
-use Rattle.std.proofs.Common.{◌≡◌, ℕ, ◌-◌, ◌≤◌, true, false, List, [], ◌∷◌, ◌++◌, sym, refl, ap, ◌∙◌, append_assoc, arith}
+use Rattle.std.proofs.Common.{◌≡◌, ℕ, ◌-◌, ◌≤◌, List, [], ◌∷◌, ◌++◌, refl, ◌∙◌, append_assoc, arith}
 use Rattle.std.proofs.lemmas.Bool.{lt-ltb, ne_eqb}
 use Rattle.grammar.specs.Shape.{Text, is_basic, Shape, basic, array, dict, structure, maybe, Shapes, nil, more, printed, printed_all}
 use Rattle.grammar.specs.Depth.{structure_depth, structure_depths, array_depth, array_depths}
 use Rattle.grammar.specs.Scan.{Frame, one, others, element, close, types, good, begin, step, run}
 use Rattle.grammar.proofs.ReadBack.{head}
-use Rattle.grammar.proofs.ScanSteps.{run_next, run_same, run_good, begin_basic, begin_maybe, begin_array, begin_structure, step_one, step_types, step_others, step_others_end, step_element, step_element_pair, step_close}
+use Rattle.grammar.proofs.ScanSteps.{run_good}
 
 -- where a type may begin, a shape's text is read as a type
 pub at_others : (t : Shape) (s a : ℕ) (k : List Frame) (w : Text) → run (others s a ∷ k) (printed t ++ w) ≡ run (one s a ∷ others s a ∷ k) (printed t ++ w)

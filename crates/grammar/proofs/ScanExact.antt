@@ -9,7 +9,7 @@ use Rattle.grammar.specs.declared.error.Fault.{Fault}
 use Rattle.grammar.specs.Valid.{Valid, Start, Place, Because, FaultOf, StartAtAnyDepth}
 use Rattle.grammar.specs.Scan.{Frame, one, others, element, close, types, Step, go, stop, Verdict, good, bad, begin, step, final, run, top, fault_by, fault}
 use Rattle.grammar.specs.Laws.{OneFault, ScanIsExact, ExactlyOneFault}
-use Rattle.grammar.proofs.ScanSteps.{run_next, run_stop, run_good, run_one, run_others, run_element, run_close, begin_basic, step_one, step_types, step_none, step_others, step_others_end, step_element, step_element_pair, step_close, step_close_not, Begins, begins, is_code, is_maybe, is_array, is_structure, is_deep, is_other}
+use Rattle.grammar.proofs.ScanSteps.{run_next, run_stop, step_others, step_element, step_close_not, Begins, begins, is_code, is_maybe, is_array, is_structure, is_deep, is_other}
 use Rattle.grammar.proofs.ScanComplete.{complete_top}
 use Rattle.grammar.proofs.ReadBack.{head}
 use Rattle.grammar.proofs.ScanSound.{sound}

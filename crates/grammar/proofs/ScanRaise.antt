@@ -1,10 +1,9 @@
 -- A run with one more structure and array allowed everywhere goes at least as far.
 use Rattle.std.proofs.Common.{◌≡◌, ℕ, ◌+◌, ◌-◌, ◌⊎◌, List, [], ◌∷◌, sym, ap, ◌∙◌, inl, inr, arith}
 use Rattle.std.proofs.lemmas.Bool.{cases_eq}
-use Rattle.grammar.specs.declared.error.Cause.{Cause}
-use Rattle.grammar.specs.declared.error.Cause.TheVariants.{TooDeep, Unexpected}
-use Rattle.grammar.specs.Scan.{Frame, one, others, element, close, types, Step, go, stop, begin, step}
-use Rattle.grammar.proofs.ScanSteps.{begin_basic, begin_maybe, begin_array, begin_structure, step_one, step_types, step_none, step_others, step_others_end, step_element, step_element_pair, step_close, step_close_not, Begins, begins, is_code, is_maybe, is_array, is_structure, is_deep, is_other}
+use Rattle.grammar.specs.declared.error.Cause.TheVariants.{TooDeep}
+use Rattle.grammar.specs.Scan.{Frame, one, others, element, close, types, go, stop, begin, step}
+use Rattle.grammar.proofs.ScanSteps.{begin_basic, begin_maybe, begin_array, begin_structure, step_others, step_element, step_close_not, Begins, begins, is_code, is_maybe, is_array, is_structure, is_deep, is_other}
 
 abbrev pub raise : List Frame → List Frame
 raise [] = []

@@ -1,12 +1,10 @@
 -- A text that is read to its end is that of shapes.
-use Rattle.std.proofs.Common.{◌≡◌, ℕ, ◌+◌, ◌-◌, ◌<◌, ◌≤◌, ◌⊎◌, List, [], ◌∷◌, ◌++◌, sym, refl, ap, ◌∙◌, subst, inl, inr, append_assoc, arith}
+use Rattle.std.proofs.Common.{◌≡◌, ℕ, ◌+◌, ◌-◌, ◌<◌, ◌≤◌, List, [], ◌∷◌, ◌++◌, sym, refl, ap, ◌∙◌, subst, inl, inr, append_assoc, arith}
 use Rattle.std.proofs.lemmas.Bool.{cases_eq}
-use Rattle.grammar.specs.declared.error.Cause.{Cause}
-use Rattle.grammar.specs.declared.error.Cause.TheVariants.{Ended, TooDeep, Unexpected}
 use Rattle.grammar.specs.Shape.{Text, Shape, basic, array, dict, structure, maybe, Shapes, nil, more, printed, printed_all}
 use Rattle.grammar.specs.Depth.{structure_depth, structure_depths, array_depth, array_depths}
-use Rattle.grammar.specs.Scan.{Frame, one, others, element, close, types, Step, go, stop, good, bad, begin, step, final, run}
-use Rattle.grammar.proofs.ScanSteps.{run_next, run_stop, run_one, run_others, run_element, run_close, step_one, step_types, step_none, step_others, step_others_end, step_element, step_element_pair, step_close, step_close_not, Begins, begins, is_code, is_maybe, is_array, is_structure, is_deep, is_other}
+use Rattle.grammar.specs.Scan.{Frame, one, others, element, close, types, Step, go, stop, good, begin, step, final, run}
+use Rattle.grammar.proofs.ScanSteps.{run_next, run_stop, step_others, step_element, step_close_not, Begins, begins, is_code, is_maybe, is_array, is_structure, is_deep, is_other}
 
 -- a text begins with a type, and then comes what R says
 pub record Typed (s a : ℕ) (w : Text) (R : Text → Type 0) : Type 0 where
