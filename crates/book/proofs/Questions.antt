@@ -178,14 +178,8 @@ module _ (ns : List Node) (g : Good ns) where
       go l (yes h) = rw (lt-ltb n (15 + length ns) h) (ap accepted (same_number m n l h))
       go l (no h) = rw (le-ltb n (15 + length ns) (omega arith))
 
--- The answers over numbers, case by case.
+-- What is asked of a number that is not known.
 module _ {A : Type 0} (q : Node → Outcome A) (ns : List Node) where
-  pub answer_row : (n : ℕ) (d : Node) → 15 ≤ n → n < 15 + length ns → node_answer q ns n ≡ q (get_or ns (n - 15) d)
-  answer_row n d l h = rw (lt-ltb n (15 + length ns) h, le-ltb n 15 l) (ap q (get_or_default ns (n - 15) (array 0) d (omega arith)))
-
-  pub answer_code : (n : ℕ) → n < 15 → node_answer q ns n ≡ refused 6 []
-  answer_code n l = rw (lt-ltb n (15 + length ns) (omega arith), lt-ltb n 15 l)
-
   pub answer_unknown : (n : ℕ) → 15 + length ns ≤ n → node_answer q ns n ≡ refused 3 (0 ∷ [])
   answer_unknown n l = rw (le-ltb n (15 + length ns) l)
 
