@@ -15,4 +15,3 @@ pub mod Backed
 pub mod Histories
 pub mod Places
 pub mod MakersTold
-pub mod FromBytes
