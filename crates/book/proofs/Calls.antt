@@ -18,7 +18,8 @@ use Rattle.book.specs.Agree.{EachRunAgrees}
 use Rattle.book.specs.Nodes.{Node, array, maybe, dict, structure, same_node, enter, intern, size_of, node_figures, intern_text, size_call, basics, byte, shape_at, shapes_at, node_shape, Part, Parts, Known}
 use Rattle.book.specs.Nodes
 use Rattle.grammar.proofs.ReadBack.{reading_printed, read_all_printed, reading_empty}
-use Rattle.book.proofs.Lists.{in_get_d, All, add_all_old, add_all_append}
+use Rattle.std.specs.List.{AllByRecursion}
+use Rattle.book.proofs.Lists.{in_get_d, add_all_old, add_all_append}
 use Rattle.book.proofs.NodeShapes.{same_texts, basics_long}
 use Rattle.book.proofs.Figured.{node_figures_are}
 use Rattle.book.proofs.Sound.{Sound, as_many, inner, inner_is, inner_in, in_map, start}
@@ -38,17 +39,17 @@ by_none : (o : Option Fault) → by o ≡ none → o ≡ none
 by_none none e = refl
 by_none (some f) e = absurd (true≢false cc)
 
-first_none : (p : ℕ → Bool) (ns : List ℕ) → first_at p ns ≡ none → All (λ n. p n ≡ false) ns
+first_none : (p : ℕ → Bool) (ns : List ℕ) → first_at p ns ≡ none → AllByRecursion (λ n. p n ≡ false) ns
 first_none p [] e = tt
 first_none p (n ∷ ns) e = go (first_none p ns) (p n) refl (first_at p ns) refl e
   where
-    go : (first_at p ns ≡ none → All (λ n. p n ≡ false) ns) → (b : Bool) → p n ≡ b → (o : Option ℕ) → first_at p ns ≡ o → cond b (some 0) (next o) ≡ none → All (λ n. p n ≡ false) (n ∷ ns)
+    go : (first_at p ns ≡ none → AllByRecursion (λ n. p n ≡ false) ns) → (b : Bool) → p n ≡ b → (o : Option ℕ) → first_at p ns ≡ o → cond b (some 0) (next o) ≡ none → AllByRecursion (λ n. p n ≡ false) (n ∷ ns)
     go ih true q none f e = let z : ◌≡◌ {A = Option ℕ} (some 0) none = e in absurd (true≢false cc)
     go ih true q (some i) f e = let z : ◌≡◌ {A = Option ℕ} (some 0) none = e in absurd (true≢false cc)
     go ih false q none f e = (q, ih f)
     go ih false q (some i) f e = let z : ◌≡◌ {A = Option ℕ} (some (i + 1)) none = e in absurd (true≢false cc)
 
-all_parts : (m : ℕ) (ns : List ℕ) → All (λ n. ltb (14 + m) n ≡ false) ns → All (λ n. eqb n 0 ≡ false) ns → Parts m ns
+all_parts : (m : ℕ) (ns : List ℕ) → AllByRecursion (λ n. ltb (14 + m) n ≡ false) ns → AllByRecursion (λ n. eqb n 0 ≡ false) ns → Parts m ns
 all_parts m [] a b = tt
 all_parts m (n ∷ ns) a b = let p = ltb-false (14 + m) n a.0 in let q = eqb-false n 0 b.0 in (omega arith, all_parts m ns a.1 b.1)
 

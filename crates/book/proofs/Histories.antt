@@ -177,7 +177,7 @@ with_fields (structure s ts) before t e n = tt
 of_tail : (answers : List Answer) (b : List Text) → ((w : Text) → ContainerText answers b w → In w b) → (t : List Text) → Tail answers b t → In t (tails_of b)
 of_tail answers b h t r =
     let i : In (printed r.shape) b = h (printed r.shape) (record { shape = r.shape; result = r.result; container = with_fields r.shape r.before t r.list r.filled; text = refl }) in
-    tails_every [] b t (map printed (fields r.shape)) (printed r.shape) i (sym (ap fields_of (reading_printed r.shape))) (in_tail (map printed (fields r.shape)) t r.before r.list r.filled)
+    tails_every [] b t (map printed (fields r.shape)) (printed r.shape) i (sym (ap fields_of (reading_printed r.shape))) (rw r.list (in_tail r.before t r.filled))
 
 -- the book stays within its room
 abbrev Fits : Limits → List Text → Type 0

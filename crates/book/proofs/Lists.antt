@@ -1,21 +1,13 @@
 -- Lists without repetition.
 use Rattle.std.proofs.Common.{◌≡◌, ℕ, zero, suc, ◌<◌, Bool, true, false, cond, ◌&&◌, ◌||◌, eqb, ◌⊎◌, List, [], ◌∷◌, ◌++◌, map, length, get_or, sym, refl, ap, ◌∙◌, subst, ap₂, inl, inr, true≢false, append_assoc, append-nil, arith}
-use Rattle.std.proofs.lemmas.Bool.{eq-eqb, eqb-true, or_cases, or_left, or_right, and_parts, cases_Bool, and_from}
+use Rattle.std.proofs.lemmas.Bool.{eq-eqb, eqb-true, or_cases, or_left, or_right, and_parts, cases_Bool, and_from, false_from_ne_true}
+use Rattle.std.proofs.lemmas.Slice.Zip.{all_zipped_more}
+use Rattle.std.specs.List.{AllByRecursion, AllZip}
 use Rattle.grammar.specs.Lists.{In, Distinct, same_list, has, place, add, add_all, tails}
 
 pub record Decides {A : Type 0} (same : A → A → Bool) : Type 0 where
   pub so : (x y : A) → same x y ≡ true → x ≡ y
   pub self : (x : A) → same x x ≡ true
-
-abbrev pub All : {A : Type 0} → (A → Type 0) → List A → Type 0
-All P [] = Unit {0}
-All P (x ∷ xs) = P x × All P xs
-
-abbrev pub All2 : {A B : Type 0} → (A → B → Type 0) → List A → List B → Type 0
-All2 R [] [] = Unit {0}
-All2 R [] (y ∷ ys) = ⊥
-All2 R (x ∷ xs) [] = ⊥
-All2 R (x ∷ xs) (y ∷ ys) = R x y × All2 R xs ys
 
 pub numbers : Decides eqb
 numbers = record { so = λ x y h. eqb-true x y h; self = λ x. eq-eqb x x refl }
@@ -25,15 +17,15 @@ same_lists {A} {same} d = record { so = so; self = self }
   where
     so : (x y : List A) → same_list same x y ≡ true → x ≡ y
     so [] [] h = refl
-    so [] (y ∷ ys) h = absurd (true≢false (sym h))
-    so (x ∷ xs) [] h = absurd (true≢false (sym h))
+    so [] (y ∷ ys) h = cc
+    so (x ∷ xs) [] h = cc
     so (x ∷ xs) (y ∷ ys) h = let p = and_parts (same x y) (same_list same xs ys) h in ap₂ ◌∷◌ (d.so x y p.0) (so xs ys p.1)
 
     self : (x : List A) → same_list same x x ≡ true
     self [] = refl
     self (x ∷ xs) = and_from (same x x) (same_list same xs xs) (d.self x) (self xs)
 
-pub all_in : {A : Type 0} (P : A → Type 0) (xs : List A) (x : A) → All P xs → In x xs → P x
+pub all_in : {A : Type 0} (P : A → Type 0) (xs : List A) (x : A) → AllByRecursion P xs → In x xs → P x
 all_in P [] x a i = absurd i
 all_in P (y ∷ ys) x a (inl e) = subst P e a.0
 all_in P (y ∷ ys) x a (inr i) = all_in P ys x a.1 i
@@ -80,7 +72,7 @@ module _ {A : Type 0} where
 
   module _ {same : A → A → Bool} (dec : Decides same) where
     pub has_in : (xs : List A) (x : A) → has same xs x ≡ true → In x xs
-    has_in [] x h = absurd (true≢false (sym h))
+    has_in [] x h = cc
     has_in (y ∷ ys) x h = go (has_in ys x) (or_cases (same y x) (has same ys x) h)
       where
         go : (has same ys x ≡ true → In x ys) → (same y x ≡ true) ⊎ (has same ys x ≡ true) → In x (y ∷ ys)
@@ -93,20 +85,13 @@ module _ {A : Type 0} where
     in_has (y ∷ ys) x (inr i) = or_right (same y x) (has same ys x) (in_has ys x i)
 
     pub not_in : (xs : List A) (x : A) → has same xs x ≡ false → In x xs → ⊥
-    not_in xs x h i = true≢false (sym (in_has xs x i) ∙ h)
-
-    pub in_not : (xs : List A) (x : A) → (In x xs → ⊥) → has same xs x ≡ false
-    in_not xs x n = go (cases_Bool (has same xs x))
-      where
-        go : (has same xs x ≡ true) ⊎ (has same xs x ≡ false) → has same xs x ≡ false
-        go (inl e) = absurd (n (has_in xs x e))
-        go (inr e) = e
+    not_in xs x h i = cc (in_has xs x i)
 
     pub add_old : (b : List A) (x : A) → In x b → add same b x ≡ b
     add_old b x i = rw (in_has b x i)
 
     pub add_new : (b : List A) (x : A) → (In x b → ⊥) → add same b x ≡ b ++ x ∷ []
-    add_new b x n = rw (in_not b x n)
+    add_new b x n = rw (false_from_ne_true (has same b x) (λ e. n (has_in b x e)))
 
     pub add_all_old : (b xs : List A) → ((x : A) → In x xs → In x b) → add_all same b xs ≡ b
     add_all_old b [] h = refl
@@ -210,102 +195,64 @@ tail_in [] t i = absurd i
 tail_in (x ∷ xs) t i = go (tail_in xs t) (in_split t (tails xs) ((x ∷ xs) ∷ []) i)
   where
     go : (In t (tails xs) → (pre : List _) × (xs ≡ pre ++ t) × (t ≡ [] → ⊥)) → In t (tails xs) ⊎ In t ((x ∷ xs) ∷ []) → (pre : List _) × (x ∷ xs ≡ pre ++ t) × (t ≡ [] → ⊥)
-    go ih (inl j) = let p = ih j in (x ∷ p.0, ap (λ (z : List _). x ∷ z) p.1, p.2)
-    go ih (inr (inl e)) = ([], e, λ n. true≢false (cc))
+    go ih (inl j) = let p = ih j in (x ∷ p.0, cc p.1, p.2)
+    go ih (inr (inl e)) = ([], e, λ n. cc)
     go ih (inr (inr j)) = absurd j
 
-tail_at : {A : Type 0} (pre t : List A) → (t ≡ [] → ⊥) → In t (tails (pre ++ t))
-tail_at [] [] n = absurd (n refl)
-tail_at [] (x ∷ xs) n = in_right (x ∷ xs) (tails xs) ((x ∷ xs) ∷ []) (inl refl)
-tail_at (y ∷ pre) t n = in_left t (tails (pre ++ t)) ((y ∷ (pre ++ t)) ∷ []) (tail_at pre t n)
+pub in_tail : {A : Type 0} (pre t : List A) → (t ≡ [] → ⊥) → In t (tails (pre ++ t))
+in_tail [] [] n = absurd (n refl)
+in_tail [] (x ∷ xs) n = in_right (x ∷ xs) (tails xs) ((x ∷ xs) ∷ []) (inl refl)
+in_tail (y ∷ pre) t n = in_left t (tails (pre ++ t)) ((y ∷ (pre ++ t)) ∷ []) (in_tail pre t n)
 
-pub in_tail : {A : Type 0} (fs t pre : List A) → fs ≡ pre ++ t → (t ≡ [] → ⊥) → In t (tails fs)
-in_tail fs t pre e n = rw e (tail_at pre t n)
+-- Of two lists, by a step for each two that stand at one place.
+pub by_zip : {A B : Type 0} (R : A → B → Type 0) (P : List A → List B → Type 0) → P [] []
+    → ((x : A) (u : B) (xs : List A) (us : List B) → R x u → AllZip R xs us → P xs us → P (x ∷ xs) (u ∷ us)) → (xs : List A) (us : List B) → AllZip R xs us → P xs us
+by_zip R P n s [] [] a = n
+by_zip R P n s [] (u ∷ us) a = absurd a
+by_zip R P n s (x ∷ xs) [] a = absurd a
+by_zip R P n s (x ∷ xs) (u ∷ us) a = s x u xs us a.0 a.1 (by_zip R P n s xs us a.1)
 
 -- A map that keeps the tests keeps what is made by them.
 module _ {A B : Type 0} (sameA : A → A → Bool) (sameB : B → B → Bool) (R : A → B → Type 0)
     (keep : (x y : A) (u v : B) → R x u → R y v → sameA x y ≡ sameB u v) where
-  pub has2 : (xs : List A) (us : List B) (y : A) (v : B) → All2 R xs us → R y v → has sameA xs y ≡ has sameB us v
-  has2 [] [] y v a r = refl
-  has2 [] (u ∷ us) y v a r = absurd a
-  has2 (x ∷ xs) [] y v a r = absurd a
-  has2 (x ∷ xs) (u ∷ us) y v a r = ap₂ ◌||◌ (keep x y u v a.0 r) (has2 xs us y v a.1 r)
+  pub has2 : (xs : List A) (us : List B) (y : A) (v : B) → AllZip R xs us → R y v → has sameA xs y ≡ has sameB us v
+  has2 xs us y v a r = by_zip R (λ ps qs. has sameA ps y ≡ has sameB qs v) refl (λ x u ps qs p b ih. ap₂ ◌||◌ (keep x y u v p r) ih) xs us a
 
-  pub place2 : (xs : List A) (us : List B) (y : A) (v : B) → All2 R xs us → R y v → place sameA xs y ≡ place sameB us v
-  place2 [] [] y v a r = refl
-  place2 [] (u ∷ us) y v a r = absurd a
-  place2 (x ∷ xs) [] y v a r = absurd a
-  place2 (x ∷ xs) (u ∷ us) y v a r = rw (keep x y u v a.0 r, place2 xs us y v a.1 r)
+  pub place2 : (xs : List A) (us : List B) (y : A) (v : B) → AllZip R xs us → R y v → place sameA xs y ≡ place sameB us v
+  place2 xs us y v a r = by_zip R (λ ps qs. place sameA ps y ≡ place sameB qs v) refl (λ x u ps qs p b ih. rw (keep x y u v p r, ih)) xs us a
 
-  pub push2 : (xs : List A) (us : List B) (y : A) (v : B) → All2 R xs us → R y v → All2 R (xs ++ y ∷ []) (us ++ v ∷ [])
-  push2 [] [] y v a r = (r, tt)
-  push2 [] (u ∷ us) y v a r = absurd a
-  push2 (x ∷ xs) [] y v a r = absurd a
-  push2 (x ∷ xs) (u ∷ us) y v a r = (a.0, push2 xs us y v a.1 r)
-
-  pub add2 : (xs : List A) (us : List B) (y : A) (v : B) → All2 R xs us → R y v → All2 R (add sameA xs y) (add sameB us v)
-  add2 xs us y v a r = go (has sameA xs y) (has sameB us v) (has2 xs us y v a r)
+  add2 : (xs : List A) (us : List B) (y : A) (v : B) → AllZip R xs us → R y v → AllZip R (add sameA xs y) (add sameB us v)
+  add2 xs us y v a r = rw (has2 xs us y v a r) (cond_zip (has sameB us v))
     where
-      go : (p q : Bool) → p ≡ q → All2 R (cond p xs (xs ++ y ∷ [])) (cond q us (us ++ v ∷ []))
-      go true true e = a
-      go false false e = push2 xs us y v a r
-      go true false e = absurd (true≢false e)
-      go false true e = absurd (true≢false (sym e))
+      cond_zip : (t : Bool) → AllZip R (cond t xs (xs ++ y ∷ [])) (cond t us (us ++ v ∷ []))
+      cond_zip true = a
+      cond_zip false = all_zipped_more R xs us y v a r
 
-  pub add_all2 : (xs : List A) (us : List B) (ys : List A) (vs : List B) → All2 R xs us → All2 R ys vs → All2 R (add_all sameA xs ys) (add_all sameB us vs)
-  add_all2 xs us [] [] a r = a
-  add_all2 xs us [] (v ∷ vs) a r = absurd r
-  add_all2 xs us (y ∷ ys) [] a r = absurd r
-  add_all2 xs us (y ∷ ys) (v ∷ vs) a r = add_all2 (add sameA xs y) (add sameB us v) ys vs (add2 xs us y v a r.0) r.1
+  pub add_all2 : (xs : List A) (us : List B) (ys : List A) (vs : List B) → AllZip R xs us → AllZip R ys vs → AllZip R (add_all sameA xs ys) (add_all sameB us vs)
+  add_all2 xs us ys vs a r =
+      by_zip R (λ ps qs. (xs : List A) (us : List B) → AllZip R xs us → AllZip R (add_all sameA xs ps) (add_all sameB us qs)) (λ xs us a. a)
+      (λ y v ps qs p b ih xs us a. ih (add sameA xs y) (add sameB us v) (add2 xs us y v a p)) ys vs r xs us a
 
-pub long2 : {A B : Type 0} (R : A → B → Type 0) (xs : List A) (us : List B) → All2 R xs us → length xs ≡ length us
-long2 R [] [] a = refl
-long2 R [] (u ∷ us) a = absurd a
-long2 R (x ∷ xs) [] a = absurd a
-long2 R (x ∷ xs) (u ∷ us) a = ap suc (long2 R xs us a.1)
+  pub same_list2 : (xs ys : List A) (us vs : List B) → AllZip R xs us → AllZip R ys vs → same_list sameA xs ys ≡ same_list sameB us vs
+  same_list2 xs ys us vs a b =
+      by_zip R (λ ps qs. (ys : List A) (vs : List B) → AllZip R ys vs → same_list sameA ps ys ≡ same_list sameB qs vs)
+      (by_zip R (λ ys vs. same_list sameA [] ys ≡ same_list sameB [] vs) refl (λ y v ys vs q d ih. refl))
+      (λ x u ps qs p c ih. by_zip R (λ ys vs. same_list sameA (x ∷ ps) ys ≡ same_list sameB (u ∷ qs) vs) refl (λ y v ys vs q d jh. ap₂ ◌&&◌ (keep x y u v p q) (ih ys vs d)))
+      xs us a ys vs b
 
-pub weaken2 : {A B : Type 0} (R S : A → B → Type 0) (xs : List A) (us : List B) → ((x : A) (u : B) → R x u → S x u) → All2 R xs us → All2 S xs us
-weaken2 R S [] [] f a = tt
-weaken2 R S [] (u ∷ us) f a = absurd a
-weaken2 R S (x ∷ xs) [] f a = absurd a
-weaken2 R S (x ∷ xs) (u ∷ us) f a = (f x u a.0, weaken2 R S xs us f a.1)
+pub weaken2 : {A B : Type 0} (R S : A → B → Type 0) (xs : List A) (us : List B) → ((x : A) (u : B) → R x u → S x u) → AllZip R xs us → AllZip S xs us
+weaken2 R S xs us f a = by_zip R (AllZip S) tt (λ x u ps qs p b ih. (f x u p, ih)) xs us a
 
 -- tails of related lists are related
-pub append2 : {A B : Type 0} (R : A → B → Type 0) (xs : List A) (us : List B) (ys : List A) (vs : List B) → All2 R xs us → All2 R ys vs → All2 R (xs ++ ys) (us ++ vs)
-append2 R [] [] ys vs a b = b
-append2 R [] (u ∷ us) ys vs a b = absurd a
-append2 R (x ∷ xs) [] ys vs a b = absurd a
-append2 R (x ∷ xs) (u ∷ us) ys vs a b = (a.0, append2 R xs us ys vs a.1 b)
-
-pub tails2 : {A B : Type 0} (R : A → B → Type 0) (xs : List A) (us : List B) → All2 R xs us → All2 (All2 R) (tails xs) (tails us)
-tails2 R [] [] a = tt
-tails2 R [] (u ∷ us) a = absurd a
-tails2 R (x ∷ xs) [] a = absurd a
-tails2 R (x ∷ xs) (u ∷ us) a = append2 (All2 R) (tails xs) (tails us) ((x ∷ xs) ∷ []) ((u ∷ us) ∷ []) (tails2 R xs us a.1) (a, tt)
-
-pub same_list2 : {A B : Type 0} (sameA : A → A → Bool) (sameB : B → B → Bool) (R : A → B → Type 0)
-    (keep : (x y : A) (u v : B) → R x u → R y v → sameA x y ≡ sameB u v)
-    (xs ys : List A) (us vs : List B) → All2 R xs us → All2 R ys vs → same_list sameA xs ys ≡ same_list sameB us vs
-same_list2 sameA sameB R keep [] [] [] [] a b = refl
-same_list2 sameA sameB R keep [] [] [] (v ∷ vs) a b = absurd b
-same_list2 sameA sameB R keep [] [] (u ∷ us) vs a b = absurd a
-same_list2 sameA sameB R keep [] (y ∷ ys) [] [] a b = absurd b
-same_list2 sameA sameB R keep [] (y ∷ ys) [] (v ∷ vs) a b = refl
-same_list2 sameA sameB R keep [] (y ∷ ys) (u ∷ us) vs a b = absurd a
-same_list2 sameA sameB R keep (x ∷ xs) ys [] vs a b = absurd a
-same_list2 sameA sameB R keep (x ∷ xs) [] (u ∷ us) [] a b = refl
-same_list2 sameA sameB R keep (x ∷ xs) [] (u ∷ us) (v ∷ vs) a b = absurd b
-same_list2 sameA sameB R keep (x ∷ xs) (y ∷ ys) (u ∷ us) [] a b = absurd b
-same_list2 sameA sameB R keep (x ∷ xs) (y ∷ ys) (u ∷ us) (v ∷ vs) a b = ap₂ ◌&&◌ (keep x y u v a.0 b.0) (same_list2 sameA sameB R keep xs ys us vs a.1 b.1)
+pub tails2 : {A B : Type 0} (R : A → B → Type 0) (xs : List A) (us : List B) → AllZip R xs us → AllZip (AllZip R) (tails xs) (tails us)
+tails2 R xs us a =
+    by_zip R (λ ps qs. AllZip (AllZip R) (tails ps) (tails qs)) tt (λ x u ps qs p b ih. all_zipped_more (AllZip R) (tails ps) (tails qs) (x ∷ ps) (u ∷ qs) ih (p, b)) xs us a
 
 -- equal images, one for one
-pub map2 : {A B C : Type 0} (R : A → B → Type 0) (f : A → C) (g : B → C) → ((x : A) (u : B) → R x u → g u ≡ f x) → (xs : List A) (us : List B) → All2 R xs us → map g us ≡ map f xs
-map2 R f g h [] [] a = refl
-map2 R f g h [] (u ∷ us) a = absurd a
-map2 R f g h (x ∷ xs) [] a = absurd a
-map2 R f g h (x ∷ xs) (u ∷ us) a = ap₂ ◌∷◌ (h x u a.0) (map2 R f g h xs us a.1)
+pub map2 : {A B C : Type 0} (R : A → B → Type 0) (f : A → C) (g : B → C) → ((x : A) (u : B) → R x u → g u ≡ f x) → (xs : List A) (us : List B) → AllZip R xs us → map g us ≡ map f xs
+map2 R f g h xs us a = by_zip R (λ ps qs. map g qs ≡ map f ps) refl (λ x u ps qs p b ih. ap₂ ◌∷◌ (h x u p) ih) xs us a
 
-pub get_or2 : {A B : Type 0} (R : A → B → Type 0) (xs : List A) (us : List B) (i : ℕ) (d : A) (e : B) → i < length xs → All2 R xs us → R (get_or xs i d) (get_or us i e)
+pub get_or2 : {A B : Type 0} (R : A → B → Type 0) (xs : List A) (us : List B) (i : ℕ) (d : A) (e : B) → i < length xs → AllZip R xs us → R (get_or xs i d) (get_or us i e)
 get_or2 R [] us i d e l a = absurd (omega arith)
 get_or2 R (x ∷ xs) [] i d e l a = absurd a
 get_or2 R (x ∷ xs) (u ∷ us) zero d e l a = a.0

@@ -67,20 +67,20 @@ keep_num ss d n m u v p q = bool_same (eqb n m) (same_text u v)
 
 pub code_inj : (x y : Node) → code x ≡ code y → x ≡ y
 code_inj (array a) (array b) e = cc
-code_inj (array a) (maybe b) e = let z : ◌≡◌ {A = ℕ} 1 4 = cc in absurd (omega arith)
-code_inj (array a) (dict b b') e = let z : ◌≡◌ {A = ℕ} 1 2 = cc in absurd (omega arith)
-code_inj (array a) (structure b) e = let z : ◌≡◌ {A = ℕ} 1 3 = cc in absurd (omega arith)
-code_inj (maybe a) (array b) e = let z : ◌≡◌ {A = ℕ} 4 1 = cc in absurd (omega arith)
+code_inj (array a) (maybe b) e = cc
+code_inj (array a) (dict b b') e = cc
+code_inj (array a) (structure b) e = cc
+code_inj (maybe a) (array b) e = cc
 code_inj (maybe a) (maybe b) e = cc
-code_inj (maybe a) (dict b b') e = let z : ◌≡◌ {A = ℕ} 4 2 = cc in absurd (omega arith)
-code_inj (maybe a) (structure b) e = let z : ◌≡◌ {A = ℕ} 4 3 = cc in absurd (omega arith)
-code_inj (dict a a') (array b) e = let z : ◌≡◌ {A = ℕ} 2 1 = cc in absurd (omega arith)
-code_inj (dict a a') (maybe b) e = let z : ◌≡◌ {A = ℕ} 2 4 = cc in absurd (omega arith)
+code_inj (maybe a) (dict b b') e = cc
+code_inj (maybe a) (structure b) e = cc
+code_inj (dict a a') (array b) e = cc
+code_inj (dict a a') (maybe b) e = cc
 code_inj (dict a a') (dict b b') e = cc
-code_inj (dict a a') (structure b) e = let z : ◌≡◌ {A = ℕ} 2 3 = cc in absurd (omega arith)
-code_inj (structure a) (array b) e = let z : ◌≡◌ {A = ℕ} 3 1 = cc in absurd (omega arith)
-code_inj (structure a) (maybe b) e = let z : ◌≡◌ {A = ℕ} 3 4 = cc in absurd (omega arith)
-code_inj (structure a) (dict b b') e = let z : ◌≡◌ {A = ℕ} 3 2 = cc in absurd (omega arith)
+code_inj (dict a a') (structure b) e = cc
+code_inj (structure a) (array b) e = cc
+code_inj (structure a) (maybe b) e = cc
+code_inj (structure a) (dict b b') e = cc
 code_inj (structure a) (structure b) e = cc
 
 pub same_nodes : Decides same_node

@@ -17,7 +17,9 @@ use Rattle.book.specs.Plain.{same_text, text_of, number_of}
 use Rattle.book.specs.Nodes.{Node, array, maybe, dict, structure, figures_from, figures_at, basics, byte, shapes_from, shape_at, node_shape, Part, Known, texts_of}
 use Rattle.book.specs.Agree.{Good}
 use Rattle.book.specs.Questions.{if_known, child_by, key_by, value_by, fields_by, number_at, child_of, key_of, value_of, len_of, get_of, figure_of, Format, alignment_in, alignment, alignment_of, equal_of, node_answer, node_child, node_dict_key, node_dict_value, node_fields, item_at, node_len, node_get, figure_answer, alignment_answer, equal_answer}
-use Rattle.book.proofs.Lists.{All, All2, all_in, in_get_d, long2, get_or2}
+use Rattle.std.proofs.lemmas.Slice.Zip.{AllZip-long}
+use Rattle.std.specs.List.{AllByRecursion, AllZip}
+use Rattle.book.proofs.Lists.{all_in, in_get_d, get_or2}
 use Rattle.book.proofs.NodeShapes.{Num, Row, keep_num, basics_count, at_shape}
 use Rattle.book.proofs.Figured.{shape_figures}
 use Rattle.book.proofs.Sound.{Sound, as_many}
@@ -46,7 +48,7 @@ Code (Shape.maybe t) = ⊥
 Code (Shape.dict k v) = ⊥
 Code (Shape.structure t ts) = ⊥
 
-basics_codes : All Code basics
+basics_codes : AllByRecursion Code basics
 unfolding basics is_basic
 basics_codes = (tt, (tt, (tt, (tt, (tt, (tt, (tt, (tt, (tt, (tt, (tt, (tt, (tt, (tt, tt))))))))))))))
 
@@ -122,7 +124,7 @@ module _ (ns : List Node) (g : Good ns) where
       node (structure (n ∷ fs)) k = refl
 
   -- a question about the fields
-  of_fields : {A : Type 0} (f : List Text → Outcome A) (h : List ℕ → Outcome A) → ((t : List ℕ) (u : List Text) → All2 (Num (shapes_from [] ns)) t u → f u ≡ h t)
+  of_fields : {A : Type 0} (f : List Text → Outcome A) (h : List ℕ → Outcome A) → ((t : List ℕ) (u : List Text) → AllZip (Num (shapes_from [] ns)) t u → f u ≡ h t)
       → (x : Node) → Known (length (shapes_from [] ns)) x → fields_by f (some (node_shape (shapes_from [] ns) x)) ≡ node_fields h x
   of_fields f h e (array n) k = refl
   of_fields f h e (maybe n) k = refl
@@ -132,13 +134,13 @@ module _ (ns : List Node) (g : Good ns) where
 
   pub len_agrees : (n : ℕ) → len_of (texts_of ns) n ≡ node_answer node_len ns n
   unfolding len_of
-  len_agrees = asked (fields_by (λ fs. accepted (length fs))) node_len refl (λ c h. refl) (of_fields (λ fs. accepted (length fs)) (λ fs. accepted (length fs)) (λ t u a. ap accepted (sym (long2 (Num (shapes_from [] ns)) t u a))))
+  len_agrees = asked (fields_by (λ fs. accepted (length fs))) node_len refl (λ c h. refl) (of_fields (λ fs. accepted (length fs)) (λ fs. accepted (length fs)) (λ t u a. ap accepted (AllZip-long (Num (shapes_from [] ns)) t u a)))
 
-  item : (i : ℕ) (t : List ℕ) (u : List Text) → All2 (Num (shapes_from [] ns)) t u → number_at (texts_of ns) u i ≡ item_at t i
+  item : (i : ℕ) (t : List ℕ) (u : List Text) → AllZip (Num (shapes_from [] ns)) t u → number_at (texts_of ns) u i ≡ item_at t i
   item i t u a = go (dec_lt i (length t))
     where
-      l : length t ≡ length u
-      l = long2 (Num (shapes_from [] ns)) t u a
+      l : length u ≡ length t
+      l = AllZip-long (Num (shapes_from [] ns)) t u a
 
       go : Dec (i < length t) → number_at (texts_of ns) u i ≡ item_at t i
       go (yes h) = let r = get_or2 (Num (shapes_from [] ns)) t u i 0 [] h a in

@@ -9,13 +9,15 @@ use Rattle.grammar.specs.Parts.{containers, containers_all}
 use Rattle.book.specs.Plain.{same_text}
 use Rattle.book.specs.Nodes.{Node, array, maybe, dict, structure, same_node, basics, byte, shape_at, shapes_at, node_shape, Part, Parts, Known, Chain, shapes_from, figures_from}
 use Rattle.grammar.specs.Figures.{figures_of}
-use Rattle.book.proofs.Lists.{All, All2, all_in, in_left, in_right, in_split, in_get_d, distinct_push, has_in, in_has, has2, push2, long2, weaken2}
+use Rattle.std.proofs.lemmas.Slice.Zip.{AllZip-long, all_zipped_more}
+use Rattle.std.specs.List.{AllByRecursion, AllZip}
+use Rattle.book.proofs.Lists.{all_in, in_left, in_right, in_split, in_get_d, distinct_push, has_in, in_has, has2, weaken2}
 use Rattle.book.proofs.NodeShapes.{same_texts, Row, basics_long, same_nodes, keep_node, known_more, row_more}
 use Rattle.book.proofs.Figured.{node_figures_are, figures_push}
 
 -- What a book over numbers keeps, where ss are its shapes.
 pub record Sound (ns : List Node) (ss : List Shape) : Type 0 where
-  pub each : All2 (Row ss) ns (map printed ss)
+  pub each : AllZip (Row ss) ns (map printed ss)
   pub apart : Distinct (basics ++ ss)
   pub closed : (t : Shape) → In t ss → (c : Shape) → In c (containers t) → In c ss
   pub figures : figures_from [] ns ≡ map figures_of ss
@@ -24,7 +26,7 @@ pub record Sound (ns : List Node) (ss : List Shape) : Type 0 where
   pub once : Distinct ns
 
 -- the basic types hold no container
-basics_bare : All (λ (s : Shape). containers s ≡ []) basics
+basics_bare : AllByRecursion (λ (s : Shape). containers s ≡ []) basics
 unfolding basics is_basic
 basics_bare = (refl, (refl, (refl, (refl, (refl, (refl, (refl, (refl, (refl, (refl, (refl, (refl, (refl, (refl, tt))))))))))))))
 
@@ -100,7 +102,7 @@ chain_push m [] y c k = (known_more (m + 0) m y (omega arith) k, tt)
 chain_push m (x ∷ xs) y c k = (c.0, chain_push (m + 1) xs y c.1 (known_more (m + suc (length xs)) (m + 1 + length xs) y (omega arith) k))
 
 pub as_many : (ns : List Node) (ss : List Shape) → Sound ns ss → length ns ≡ length ss
-as_many ns ss g = long2 (Row ss) ns (map printed ss) g.each ∙ length-map ss printed
+as_many ns ss g = sym (AllZip-long (Row ss) ns (map printed ss) g.each) ∙ length-map ss printed
 
 module _ (ns : List Node) (ss : List Shape) (g : Sound ns ss) (x : Node) (k : Known (length ss) x) where
   pub row : Row ss x (printed (node_shape ss x))
@@ -127,7 +129,7 @@ module _ (ns : List Node) (ss : List Shape) (g : Sound ns ss) (x : Node) (k : Kn
       let s : Shape = node_shape ss x in
       let d : Distinct (basics ++ (ss ++ s ∷ [])) = subst Distinct (append_assoc basics ss (s ∷ [])) (distinct_push (basics ++ ss) s g.apart (fresh n)) in
       record {
-        each = rw (map_push printed ss s) (push2 same_node same_text (Row (ss ++ s ∷ [])) (keep_node (ss ++ s ∷ []) d) ns (map printed ss) x (printed s)
+        each = rw (map_push printed ss s) (all_zipped_more (Row (ss ++ s ∷ [])) ns (map printed ss) x (printed s)
             (weaken2 (Row ss) (Row (ss ++ s ∷ [])) ns (map printed ss) (row_more ss (s ∷ [])) g.each) (row_more ss (s ∷ []) x (printed s) row));
         apart = d;
         closed = λ t i c j. clo t (in_split t ss (s ∷ []) i) c j;
