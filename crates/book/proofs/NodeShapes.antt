@@ -66,22 +66,7 @@ keep_num ss d n m u v p q = bool_same (eqb n m) (same_text u v)
     (λ h. let e : u ≡ v = same_texts.so u v h in eq-eqb n m (at_inj ss n m d p.0 q.0 (printed_inj (shape_at ss n) (shape_at ss m) (sym p.1 ∙ e ∙ q.1))))
 
 pub code_inj : (x y : Node) → code x ≡ code y → x ≡ y
-code_inj (array a) (array b) e = cc
-code_inj (array a) (maybe b) e = cc
-code_inj (array a) (dict b b') e = cc
-code_inj (array a) (structure b) e = cc
-code_inj (maybe a) (array b) e = cc
-code_inj (maybe a) (maybe b) e = cc
-code_inj (maybe a) (dict b b') e = cc
-code_inj (maybe a) (structure b) e = cc
-code_inj (dict a a') (array b) e = cc
-code_inj (dict a a') (maybe b) e = cc
-code_inj (dict a a') (dict b b') e = cc
-code_inj (dict a a') (structure b) e = cc
-code_inj (structure a) (array b) e = cc
-code_inj (structure a) (maybe b) e = cc
-code_inj (structure a) (dict b b') e = cc
-code_inj (structure a) (structure b) e = cc
+code_inj x y e = grind arith
 
 pub same_nodes : Decides same_node
 same_nodes = record { so = λ x y h. code_inj x y (same_texts.so (code x) (code y) h); self = λ x. same_texts.self (code x) }
