@@ -39,26 +39,12 @@ ats_inj ss (n ∷ ns) (m ∷ ms) d p q e = ap₂ ◌∷◌ (at_inj ss n m d p.0 
 
 pub node_inj : (ss : List Shape) (x y : Node) → Distinct (basics ++ ss) → Known (length ss) x → Known (length ss) y → node_shape ss x ≡ node_shape ss y → x ≡ y
 node_inj ss (array a) (array b) d p q e = ap array (at_inj ss a b d p q cc)
-node_inj ss (array a) (maybe b) d p q e = cc
-node_inj ss (array a) (dict b b') d p q e = cc
-node_inj ss (array a) (structure []) d p q e = absurd q
-node_inj ss (array a) (structure (b ∷ bs)) d p q e = cc
-node_inj ss (maybe a) (array b) d p q e = cc
 node_inj ss (maybe a) (maybe b) d p q e = ap maybe (at_inj ss a b d p q cc)
-node_inj ss (maybe a) (dict b b') d p q e = cc
-node_inj ss (maybe a) (structure []) d p q e = absurd q
-node_inj ss (maybe a) (structure (b ∷ bs)) d p q e = cc
-node_inj ss (dict a a') (array b) d p q e = cc
-node_inj ss (dict a a') (maybe b) d p q e = cc
 node_inj ss (dict a a') (dict b b') d p q e = ap₂ dict (at_inj ss a b d p.0 q.0 cc) (at_inj ss a' b' d p.1 q.1 cc)
-node_inj ss (dict a a') (structure []) d p q e = absurd q
-node_inj ss (dict a a') (structure (b ∷ bs)) d p q e = cc
-node_inj ss (structure []) y d p q e = absurd p
-node_inj ss (structure (a ∷ az)) (array b) d p q e = cc
-node_inj ss (structure (a ∷ az)) (maybe b) d p q e = cc
-node_inj ss (structure (a ∷ az)) (dict b b') d p q e = cc
-node_inj ss (structure (a ∷ az)) (structure []) d p q e = absurd q
 node_inj ss (structure (a ∷ az)) (structure (b ∷ bs)) d p q e = ap structure (ap₂ ◌∷◌ (at_inj ss a b d p.0 q.0 cc) (ats_inj ss az bs d p.1 q.1 cc))
+node_inj ss (structure []) y d p q e = absurd p
+node_inj ss x (structure []) d p q e = absurd q
+node_inj ss x y d p q e = cc
 
 pub keep_num : (ss : List Shape) → Distinct (basics ++ ss) → (n m : ℕ) (u v : Text) → Num ss n u → Num ss m v → eqb n m ≡ same_text u v
 keep_num ss d n m u v p q = bool_same (eqb n m) (same_text u v)
