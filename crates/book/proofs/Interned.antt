@@ -12,7 +12,7 @@ use Rattle.book.specs.Nodes.{Node, array, maybe, dict, structure, same_node, ent
 use Rattle.grammar.proofs.ReadBack.{printed_inj, head}
 use Rattle.book.proofs.Lists.{numbers, in_get_d, has_in, in_has, not_in, add_old, add_new, add_all_append, place_in, place_out, has2, place2, distinct_at}
 use Rattle.book.proofs.NodeShapes.{same_texts, same_nodes, Row, keep_node, basics_long, basics_count, at_more, at_shape}
-use Rattle.book.proofs.Sound.{Sound, as_many, row, in_text, pushed, in_map}
+use Rattle.book.proofs.Sound.{Sound, as_many, row, has_same, in_text, pushed, in_map}
 
 pub record Made (ss : List Shape) (s : Shape) (after : List Text) (r : ℕ × List Node) : Type 0 where
   pub new : List Shape
@@ -49,7 +49,7 @@ entered ns ss g x k = go (cases_Bool (has same_node ns x))
         }
     go (inr h) =
         let n = not_in same_nodes ns x h in
-        let m : In (printed (node_shape ss x)) (map printed ss) → ⊥ = λ j. true≢false (sym (in_has same_texts (map printed ss) (printed (node_shape ss x)) j) ∙ sym (has2 same_node same_text (Row ss) (keep_node ss g.apart) ns (map printed ss) x (printed (node_shape ss x)) g.each (row ns ss g x k)) ∙ h) in
+        let m : In (printed (node_shape ss x)) (map printed ss) → ⊥ = not_in same_texts (map printed ss) (printed (node_shape ss x)) (sym (has_same ns ss g x k) ∙ h) in
         let l : place same_node ns x ≡ length ss = place_out same_nodes ns x n ∙ as_many ns ss g in
         let e = length_push ss (node_shape ss x) in
         record {

@@ -22,7 +22,7 @@ use Rattle.std.specs.List.{AllByRecursion, AllZip}
 use Rattle.book.proofs.Lists.{all_in, in_get_d, get_or2}
 use Rattle.book.proofs.NodeShapes.{Num, Row, keep_num, basics_count, at_shape}
 use Rattle.book.proofs.Figured.{shape_figures}
-use Rattle.book.proofs.Sound.{Sound, as_many}
+use Rattle.book.proofs.Sound.{Sound, as_many, Code, basics_codes}
 use Rattle.book.proofs.Interned.{text_is, not_empty, empty_not}
 use Rattle.book.proofs.Tails.{node_fields_are}
 use Rattle.book.proofs.TextFigures.{text_figures_are}
@@ -39,18 +39,6 @@ if_known_is ns g n x y h = rw (texts_count ns g) (go (dec_lt n (15 + length ns))
     go : Dec (n < 15 + length ns) → if_known (length ns) n x ≡ if_known (length ns) n y
     go (yes l) = rw (lt-ltb n (15 + length ns) l) (h l)
     go (no l) = rw (le-ltb n (15 + length ns) (omega arith))
-
--- the shapes of the basic codes
-abbrev Code : Shape → Type 0
-Code (basic c h) = Unit {0}
-Code (Shape.array t) = ⊥
-Code (Shape.maybe t) = ⊥
-Code (Shape.dict k v) = ⊥
-Code (Shape.structure t ts) = ⊥
-
-basics_codes : AllByRecursion Code basics
-unfolding basics is_basic
-basics_codes = (tt, (tt, (tt, (tt, (tt, (tt, (tt, (tt, (tt, (tt, (tt, (tt, (tt, (tt, tt))))))))))))))
 
 code_at : (ss : List Shape) (n : ℕ) → 0 < n → n < 15 → Code (shape_at ss n)
 code_at ss n p l = let c = basics_count in
@@ -71,10 +59,7 @@ module _ (ns : List Node) (g : Good ns) where
       (node : (x : Node) → Known (length (shapes_from [] ns)) x → q (some (node_shape (shapes_from [] ns) x)) ≡ p x) where
     of_code : (t : Shape) → Code t → q (some t) ≡ refused 6 []
     of_code (basic c h) k = code c h
-    of_code (Shape.array t) k = absurd k
-    of_code (Shape.maybe t) k = absurd k
-    of_code (Shape.dict t u) k = absurd k
-    of_code (Shape.structure t ts) k = absurd k
+    of_code t k = absurd k
 
     asked : (n : ℕ) → if_known (length (texts_of ns)) n (q (reading (text_of (texts_of ns) n))) ≡ node_answer p ns n
     asked n = if_known_is ns g n (q (reading (text_of (texts_of ns) n))) (cond (ltb n 15) (refused 6 []) (p (get_or ns (n - 15) (array 0)))) (go n (dec_lt n 15))
