@@ -11,8 +11,7 @@ chain_at (x ∷ ns) m d c (suc k) l = known_more (m + 1 + k) (m + suc k) (get_or
 
 in_place : {A : Type 0} (xs : List A) (x d : A) → In x xs → (k : ℕ) × (k < length xs) × (get_or xs k d ≡ x)
 in_place [] x d i = absurd i
-in_place (y ∷ ys) x d (inl e) = (0, omega arith, e)
-in_place (y ∷ ys) x d (inr i) = let p = in_place ys x d i in (suc p.0, omega (arith, p.1), p.2)
+in_place (y ∷ ys) x d i = elim i [ inl e ↦ (0, omega arith, e) | inr j ↦ let p = in_place ys x d j in (suc p.0, omega (arith, p.1), p.2) ]
 
 pub distinct_by_place : {A : Type 0} (xs : List A) (d : A) → ((j k : ℕ) → j < k → k < length xs → get_or xs j d ≡ get_or xs k d → ⊥) → Distinct xs
 distinct_by_place [] d h = tt
