@@ -11,7 +11,7 @@ use Rattle.book.proofs.Lists.{in_left, place_in, add_all_longer, map_in}
 use Rattle.book.proofs.NodeShapes.{same_texts}
 use Rattle.book.proofs.Sound.{Sound}
 use Rattle.book.proofs.Interned.{known_is}
-use Rattle.book.proofs.Calls.{simulates, Left, Taken, told}
+use Rattle.book.proofs.Calls.{simulates, Left, Taken}
 
 -- a list of texts that a book over numbers stands for
 pub record Backed (b : List Text) : Type 0 where
@@ -37,7 +37,7 @@ module _ (limits : Limits) where
   pub done : (b : List Text) → Backed b → (c : Call) → Done b c
   done b k c = subst (λ (z : List Text). Done z c) k.texts
       (let s = simulates limits k.ns k.ss k.sound c in
-      (told limits k.ns k.ss k.sound c, record { ns = (Nodes.call limits k.ns c).1; ss = s.new; sound = s.sound; texts = s.texts }))
+      (s.told, record { ns = (Nodes.call limits k.ns c).1; ss = s.new; sound = s.sound; texts = s.texts }))
 
   pub backed : (b : List Text) → Backed b → (cs : List Call) → Backed (run limits b cs).1
   backed b k [] = k
