@@ -3,6 +3,7 @@ use Rattle.std.proofs.Common.{◌≡◌, ℕ, ◌+◌, ◌<◌, ◌≤◌, Bool,
 use mathlib.Core.Option.{none, some}
 use native.Mathlib.Decide.{dec_lt}
 use Rattle.std.proofs.lemmas.List.{length_push}
+use Rattle.std.proofs.lemmas.Bool.Decides.{nat_tests}
 use Rattle.std.proofs.lemmas.Bool.{cases_Bool, ltb-false, lt-ltb, le-ltb, or_right, ne_eqb}
 use Rattle.grammar.specs.Lists.{In, same_list, has, place, add, add_all, tails}
 use Rattle.book.specs.Plain.{Call, Answer, Limits, Refusing, longest_form, early, late, ◌else◌, first_at, when, empty_list}
@@ -27,8 +28,7 @@ add_tails_is T (f ∷ fs) = ap (λ (z : List (List ℕ)). add (same_list eqb) z 
 -- the tails of what is in the book are there
 tails_there : (T : List (List ℕ)) (b : List Node) (x : Node) → In x b → (t : List ℕ) → In t (tails (fields_of x)) → In t (tails_from T b)
 tails_there T [] x i t j = absurd i
-tails_there T (y ∷ b) x (inl e) t j =
-    let q = add_all_in (same_lists numbers) T (tails (fields_of y)) t (inr (subst (λ (z : Node). In t (tails (fields_of z))) (sym e) j)) in stay (add_all (same_list eqb) T (tails (fields_of y))) b q
+tails_there T (y ∷ b) x (inl e) t j = stay (add_all (same_list eqb) T (tails (fields_of y))) b (add_all_in (same_lists numbers) T (tails (fields_of y)) t (inr (rw (← e) at j)))
   where
     stay : (T : List (List ℕ)) (b : List Node) → In t T → In t (tails_from T b)
     stay T [] i = i
@@ -40,102 +40,44 @@ after limits b x = answered b (enter b x) (late limits (record { size = size_of 
 
 -- the tails with x
 tails_with : (b : List Node) (x : Node) → tails_of (add same_node b x) ≡ add_all (same_list eqb) (tails_of b) (tails (fields_of x))
-tails_with b x = go (cases_Bool (has same_node b x))
-  where
-    go : (has same_node b x ≡ true) ⊎ (has same_node b x ≡ false) → tails_of (add same_node b x) ≡ add_all (same_list eqb) (tails_of b) (tails (fields_of x))
-    go (inl h) = ap tails_of (add_old same_nodes b x (has_in same_nodes b x h)) ∙ sym (add_all_old (same_lists numbers) (tails_of b) (tails (fields_of x)) (tails_there [] b x (has_in same_nodes b x h)))
-    go (inr h) = ap tails_of (add_new same_nodes b x (not_in same_nodes b x h)) ∙ tails_append [] b (x ∷ [])
+tails_with b x = elim (cases_Bool (has same_node b x)) [
+  | inl h ↦ let i = has_in same_nodes b x h in rw (add_old same_nodes b x i, add_all_old (same_lists numbers) (tails_of b) (tails (fields_of x)) (tails_there [] b x i))
+  | inr h ↦ rw (add_new same_nodes b x (not_in same_nodes b x h)) (tails_append [] b (x ∷ []))
+]
 
 module _ (limits : Limits) (b : List Node) (x : Node) (room : Room limits b) where
   -- where the tails fit
   entered : length (tails_of (add same_node b x)) ≤ limits.fields → Makers.sized limits.types b x ≡ after limits b x
   unfolding Makers.placed
-  entered f = go (cases_Bool (ltb longest_form (size_of b x))) (cases_Bool (has same_node b x))
-    where
-      nofields : ltb limits.fields (length (tails_of (add same_node b x))) ≡ false
-      nofields = le-ltb limits.fields (length (tails_of (add same_node b x))) f
-
-      go : (ltb longest_form (size_of b x) ≡ true) ⊎ (ltb longest_form (size_of b x) ≡ false) → (has same_node b x ≡ true) ⊎ (has same_node b x ≡ false) → Makers.sized limits.types b x ≡ after limits b x
-      go (inl s) h = rw s
-      go (inr s) (inl h) =
-          let i = has_in same_nodes b x h in
-          let p = place_in same_nodes b x x i in
-          let r = room.types in
-          rw (s, nofields) (rw (add_old same_nodes b x i, lt-ltb (place same_node b x) (length b) p.0, le-ltb limits.types (length b) r))
-      go (inr s) (inr h) = let n = not_in same_nodes b x h in rw (s, nofields) (rw (place_out same_nodes b x n, add_new same_nodes b x n, le-ltb (length b) (length b) (omega arith)) (cap (dec_lt (length b) limits.types)))
-        where
-          cap : Dec (length b < limits.types) → cond (ltb (length b) limits.types) (accepted (15 + length b), b ++ x ∷ []) (refused 8 [], b)
-              ≡ answered b (15 + length b, b ++ x ∷ []) (when (ltb limits.types (length (b ++ x ∷ [])) || false) 8)
-          cap (yes l) = rw (lt-ltb (length b) limits.types l, le-ltb limits.types (length (b ++ x ∷ [])) (omega (arith, length_push b x)))
-          cap (no n) = rw (le-ltb (length b) limits.types (omega arith), lt-ltb limits.types (length (b ++ x ∷ [])) (omega (arith, length_push b x)))
+  entered f = elim (cases_Bool (has same_node b x)) [
+    | inl h ↦ let i = has_in same_nodes b x h in grind (arith, nat_tests, place_in same_nodes b x x i, add_old same_nodes b x i, room.types)
+    | inr h ↦ let n = not_in same_nodes b x h in grind (arith, nat_tests, place_out same_nodes b x n, add_new same_nodes b x n, length_push b x)
+  ]
 
 bare_fits : (limits : Limits) (b : List Node) (x : Node) → Room limits b → fields_of x ≡ [] → length (tails_of (add same_node b x)) ≤ limits.fields
 bare_fits limits b x room e = let r = room.fields in omega (arith, ap length (tails_with b x ∙ ap (λ (z : List ℕ). add_all (same_list eqb) (tails_of b) (tails z)) e))
 
-known_or : (m n : ℕ) → ((ltb n (15 + m) ≡ true) × (ltb (14 + m) n ≡ false)) ⊎ ((ltb n (15 + m) ≡ false) × (ltb (14 + m) n ≡ true))
-known_or m n = go (dec_lt n (15 + m))
-  where
-    go : Dec (n < 15 + m) → ((ltb n (15 + m) ≡ true) × (ltb (14 + m) n ≡ false)) ⊎ ((ltb n (15 + m) ≡ false) × (ltb (14 + m) n ≡ true))
-    go (yes l) = inl (lt-ltb n (15 + m) l, le-ltb (14 + m) n (omega arith))
-    go (no g) = inr (le-ltb n (15 + m) (omega arith), lt-ltb (14 + m) n (omega arith))
-
 module _ (limits : Limits) (b : List Node) (room : Room limits b) where
   pub array_same : (n : ℕ) → Makers.array_call limits.types b n ≡ call limits b (Plain.array n)
   unfolding call
-  array_same n = go (known_or (length b) n) (cases_Bool (eqb n 0))
-    where
-      go : ((ltb n (15 + length b) ≡ true) × (ltb (14 + length b) n ≡ false)) ⊎ ((ltb n (15 + length b) ≡ false) × (ltb (14 + length b) n ≡ true)) → (eqb n 0 ≡ true) ⊎ (eqb n 0 ≡ false)
-          → Makers.array_call limits.types b n ≡ call limits b (Plain.array n)
-      go (inr k) z = rw (k.0, k.1)
-      go (inl k) (inl z) = rw (k.0, k.1) (rw z)
-      go (inl k) (inr z) = rw (k.0, k.1) (rw z (entered limits b (array n) room (bare_fits limits b (array n) room refl)))
+  array_same n = grind (arith, nat_tests, entered limits b (array n) room (bare_fits limits b (array n) room refl))
 
   pub maybe_same : (n : ℕ) → Makers.maybe_call limits.types b n ≡ call limits b (Plain.maybe n)
   unfolding call
-  maybe_same n = go (known_or (length b) n) (cases_Bool (eqb n 0))
-    where
-      go : ((ltb n (15 + length b) ≡ true) × (ltb (14 + length b) n ≡ false)) ⊎ ((ltb n (15 + length b) ≡ false) × (ltb (14 + length b) n ≡ true)) → (eqb n 0 ≡ true) ⊎ (eqb n 0 ≡ false)
-          → Makers.maybe_call limits.types b n ≡ call limits b (Plain.maybe n)
-      go (inr k) z = rw (k.0, k.1)
-      go (inl k) (inl z) = rw (k.0, k.1) (rw z)
-      go (inl k) (inr z) = rw (k.0, k.1) (rw z (entered limits b (maybe n) room (bare_fits limits b (maybe n) room refl)))
+  maybe_same n = grind (arith, nat_tests, entered limits b (maybe n) room (bare_fits limits b (maybe n) room refl))
 
   pub dict_same : (n m : ℕ) → Makers.dict_call limits.types b n m ≡ call limits b (Plain.dict n m)
   unfolding call
-  dict_same n m = go (known_or (length b) n) (known_or (length b) m) (cases_Bool (eqb n 0)) (cases_Bool (eqb m 0))
-    where
-      go : ((ltb n (15 + length b) ≡ true) × (ltb (14 + length b) n ≡ false)) ⊎ ((ltb n (15 + length b) ≡ false) × (ltb (14 + length b) n ≡ true))
-          → ((ltb m (15 + length b) ≡ true) × (ltb (14 + length b) m ≡ false)) ⊎ ((ltb m (15 + length b) ≡ false) × (ltb (14 + length b) m ≡ true))
-          → (eqb n 0 ≡ true) ⊎ (eqb n 0 ≡ false) → (eqb m 0 ≡ true) ⊎ (eqb m 0 ≡ false)
-          → Makers.dict_call limits.types b n m ≡ call limits b (Plain.dict n m)
-      go (inr k) l y z = rw (k.0, k.1)
-      go (inl k) (inr l) y z = rw (k.0, k.1) (rw (l.0, l.1))
-      go (inl k) (inl l) (inl y) z = rw (k.0, k.1) (rw (l.0, l.1) (rw y))
-      go (inl k) (inl l) (inr y) (inl z) = rw (k.0, k.1) (rw (l.0, l.1) (rw y (rw z)))
-      go (inl k) (inl l) (inr y) (inr z) = rw (k.0, k.1) (rw (l.0, l.1) (rw y (rw z (entered limits b (dict n m) room (bare_fits limits b (dict n m) room refl)))))
+  dict_same n m = grind (arith, nat_tests, entered limits b (dict n m) room (bare_fits limits b (dict n m) room refl))
 
 -- positions
 first_unknown : (m : ℕ) (fs : List ℕ) → first_at (λ n. ltb (14 + m) n) fs ≡ cond (ltb (Makers.unknown_at (15 + m) fs) (length fs)) (some (Makers.unknown_at (15 + m) fs)) none
 first_unknown m [] = refl
-first_unknown m (f ∷ fs) = go (known_or m f) (first_unknown m fs) (dec_lt (Makers.unknown_at (15 + m) fs) (length fs))
-  where
-    go : ((ltb f (15 + m) ≡ true) × (ltb (14 + m) f ≡ false)) ⊎ ((ltb f (15 + m) ≡ false) × (ltb (14 + m) f ≡ true))
-        → first_at (λ n. ltb (14 + m) n) fs ≡ cond (ltb (Makers.unknown_at (15 + m) fs) (length fs)) (some (Makers.unknown_at (15 + m) fs)) none
-        → Dec (Makers.unknown_at (15 + m) fs < length fs)
-        → first_at (λ n. ltb (14 + m) n) (f ∷ fs) ≡ cond (ltb (Makers.unknown_at (15 + m) (f ∷ fs)) (length (f ∷ fs))) (some (Makers.unknown_at (15 + m) (f ∷ fs))) none
-    go (inr k) ih d = rw (k.0, k.1) (rw (lt-ltb 0 (length (f ∷ fs)) (omega arith)))
-    go (inl k) ih (yes l) = rw (k.0, k.1) (rw ih (rw (lt-ltb (Makers.unknown_at (15 + m) fs) (length fs) l, lt-ltb (Makers.unknown_at (15 + m) fs + 1) (length (f ∷ fs)) (omega arith))))
-    go (inl k) ih (no l) = rw (k.0, k.1) (rw ih (rw (le-ltb (Makers.unknown_at (15 + m) fs) (length fs) (omega arith), le-ltb (Makers.unknown_at (15 + m) fs + 1) (length (f ∷ fs)) (omega arith))))
+first_unknown m (f ∷ fs) = grind (arith, nat_tests, first_unknown m fs)
 
 first_unit : (fs : List ℕ) → first_at (λ n. eqb n 0) fs ≡ cond (ltb (Makers.unit_at fs) (length fs)) (some (Makers.unit_at fs)) none
 first_unit [] = refl
-first_unit (f ∷ fs) = go (cases_Bool (eqb f 0)) (first_unit fs) (dec_lt (Makers.unit_at fs) (length fs))
-  where
-    go : (eqb f 0 ≡ true) ⊎ (eqb f 0 ≡ false) → first_at (λ n. eqb n 0) fs ≡ cond (ltb (Makers.unit_at fs) (length fs)) (some (Makers.unit_at fs)) none → Dec (Makers.unit_at fs < length fs)
-        → first_at (λ n. eqb n 0) (f ∷ fs) ≡ cond (ltb (Makers.unit_at (f ∷ fs)) (length (f ∷ fs))) (some (Makers.unit_at (f ∷ fs))) none
-    go (inl k) ih d = rw k (rw (lt-ltb 0 (length (f ∷ fs)) (omega arith)))
-    go (inr k) ih (yes l) = rw k (rw ih (rw (lt-ltb (Makers.unit_at fs) (length fs) l, lt-ltb (Makers.unit_at fs + 1) (length (f ∷ fs)) (omega arith))))
-    go (inr k) ih (no l) = rw k (rw ih (rw (le-ltb (Makers.unit_at fs) (length fs) (omega arith), le-ltb (Makers.unit_at fs + 1) (length (f ∷ fs)) (omega arith))))
+first_unit (f ∷ fs) = grind (arith, nat_tests, first_unit fs)
 
 -- a call with the tails after it
 abbrev pub triple : Answer × List Node → Answer × List Node × List (List ℕ)
