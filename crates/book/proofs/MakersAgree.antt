@@ -88,36 +88,12 @@ module _ (limits : Limits) (b : List Node) (room : Room limits b) where
   same_tails fs = add_tails_is (tails_of b) fs ∙ sym (tails_with b (structure fs))
 
   structure_after : (fs : List ℕ) → ltb longest_form (size_of b (structure fs)) ≡ false → Makers.structure_placed limits.types limits.fields b (tails_of b) fs ≡ triple (after limits b (structure fs))
-  structure_after fs s = go (cases_Bool (ltb limits.fields (length (Makers.add_tails (tails_of b) fs))))
-    where
-      end : (o : Refusing) → Makers.kept (answered b (enter b (structure fs)) o).0 b (answered b (enter b (structure fs)) o).1 (tails_of b) (Makers.add_tails (tails_of b) fs) ≡ triple (answered b (enter b (structure fs)) o)
-      end none = ap (λ (z : List (List ℕ)). (accepted (15 + place same_node b (structure fs)), add same_node b (structure fs), z)) (same_tails fs)
-      end (some e) = refl
-
-      go : (ltb limits.fields (length (Makers.add_tails (tails_of b) fs)) ≡ true) ⊎ (ltb limits.fields (length (Makers.add_tails (tails_of b) fs)) ≡ false)
-          → Makers.structure_placed limits.types limits.fields b (tails_of b) fs ≡ triple (after limits b (structure fs))
-      go (inl f) =
-          let g : (ltb limits.types (length (add same_node b (structure fs))) || ltb limits.fields (length (tails_of (add same_node b (structure fs))))) ≡ true
-          = or_right (ltb limits.types (length (add same_node b (structure fs)))) (ltb limits.fields (length (tails_of (add same_node b (structure fs))))) (ap (λ (z : List (List ℕ)). ltb limits.fields (length z)) (sym (same_tails fs)) ∙ f) in
-          rw (f, s, g)
-      go (inr f) =
-          let l : length (tails_of (add same_node b (structure fs))) ≤ limits.fields = ltb-false limits.fields (length (tails_of (add same_node b (structure fs)))) (ap (λ (z : List (List ℕ)). ltb limits.fields (length z)) (sym (same_tails fs)) ∙ f) in
-          rw f (ap (λ (r : Answer × List Node). Makers.kept r.0 b r.1 (tails_of b) (Makers.add_tails (tails_of b) fs)) (entered limits b (structure fs) room l)
-          ∙ end (late limits (record { size = size_of b (structure fs); types = length (add same_node b (structure fs)); fields = length (tails_of (add same_node b (structure fs))) })))
+  structure_after fs s = grind (arith, nat_tests, same_tails fs, entered limits b (structure fs) room, s)
 
   structure_full : (fs : List ℕ) → empty_list (Plain.structure fs) ≡ none → eqb (length fs) 0 ≡ false
       → Makers.structure_call limits.types limits.fields b (tails_of b) fs ≡ triple (call limits b (Plain.structure fs))
   unfolding call
-  structure_full fs n z = go (cases_Bool (ltb (Makers.unknown_at (15 + length b) fs) (length fs))) (cases_Bool (ltb (Makers.unit_at fs) (length fs))) (cases_Bool (ltb longest_form (size_of b (structure fs))))
-    where
-      go : (ltb (Makers.unknown_at (15 + length b) fs) (length fs) ≡ true) ⊎ (ltb (Makers.unknown_at (15 + length b) fs) (length fs) ≡ false)
-          → (ltb (Makers.unit_at fs) (length fs) ≡ true) ⊎ (ltb (Makers.unit_at fs) (length fs) ≡ false)
-          → (ltb longest_form (size_of b (structure fs)) ≡ true) ⊎ (ltb longest_form (size_of b (structure fs)) ≡ false)
-          → Makers.structure_call limits.types limits.fields b (tails_of b) fs ≡ triple (call limits b (Plain.structure fs))
-      go (inl u) v s = rw (first_unknown (length b) fs) (rw u)
-      go (inr u) (inl v) s = rw (first_unknown (length b) fs, first_unit fs) (rw (u, v))
-      go (inr u) (inr v) (inl s) = rw (first_unknown (length b) fs, first_unit fs) (rw (u, v, n, z, s))
-      go (inr u) (inr v) (inr s) = rw (first_unknown (length b) fs, first_unit fs) (rw (u, v, n, z) (ap (λ (t : Bool). cond t (refused 7 [], b, tails_of b) (Makers.structure_placed limits.types limits.fields b (tails_of b) fs)) s ∙ structure_after fs s))
+  structure_full fs n z = grind (arith, nat_tests, first_unknown (length b) fs, first_unit fs, structure_after fs, n, z)
 
   pub structure_same : (fs : List ℕ) → Makers.structure_call limits.types limits.fields b (tails_of b) fs ≡ triple (call limits b (Plain.structure fs))
   unfolding call
