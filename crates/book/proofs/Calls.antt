@@ -1,5 +1,5 @@
 -- A call of the book over numbers answers as the plain book does.
-use Rattle.std.proofs.Common.{◌≡◌, ℕ, ◌+◌, ◌-◌, Bool, true, false, cond, eqb, ltb, ◌⊎◌, List, [], ◌∷◌, ◌++◌, map, length, sym, refl, ap, ◌∙◌, subst, ap₂, inl, inr, true≢false, append_assoc, append-nil, arith}
+use Rattle.std.proofs.Common.{◌≡◌, ℕ, ◌+◌, ◌-◌, ◌≤◌, Bool, true, false, cond, eqb, ltb, ◌⊎◌, List, [], ◌∷◌, ◌++◌, map, length, sym, refl, ap, ◌∙◌, subst, ap₂, inl, inr, true≢false, append_assoc, append-nil, arith}
 use mathlib.Core.List.{map-append}
 use mathlib.Core.Option.{Option, none, some}
 use lib.ListN.{length-map}
@@ -30,8 +30,11 @@ use Rattle.book.proofs.Interned.{entered, interned, text_is, number_is, known_is
 use Rattle.book.proofs.Tails.{tails_count}
 
 -- what the refusals that do not apply say
-else_none : (a b : Refusing) → (a else b) ≡ none → (a ≡ none) × (b ≡ none)
+pub else_none : (a b : Refusing) → (a else b) ≡ none → (a ≡ none) × (b ≡ none)
 else_none a b e = grind arith
+
+pub late_none : (limits : Limits) (need : Needed) → late limits need ≡ none → (need.types ≤ limits.types) × (need.fields ≤ limits.fields)
+late_none limits need e = grind (arith, nat_tests)
 
 at_none : (k : ℕ) (o : Option ℕ) → at k o ≡ none → o ≡ none
 at_none k o e = grind arith

@@ -16,7 +16,7 @@ use Rattle.book.proofs.NodeShapes.{same_texts}
 use Rattle.book.proofs.Sound.{start, in_map}
 use Rattle.book.proofs.Interned.{known_is, empty_not}
 use Rattle.book.proofs.Within.{within, met}
-use Rattle.book.proofs.Calls.{Left, Taken}
+use Rattle.book.proofs.Calls.{else_none, late_none, Left, Taken}
 use Rattle.book.proofs.Backed.{Backed, known_shape, known_keeps, done, backed, longer_call, longer_run, stays, numbered}
 
 known_longer : (b r : List Text) → length (known b) ≤ length (known (b ++ r))
@@ -185,18 +185,11 @@ Fits limits b = (length b ≤ limits.types) × (length (tails_of b) ≤ limits.f
 
 fits_call : (limits : Limits) (b : List Text) → Fits limits b → (c : Call) → Fits limits (call limits b c).1
 unfolding call
-fits_call limits b room c = go (early c (length b))
+fits_call limits b room c = go (early c (length b) else late limits (needed b (whole_text b c))) refl
   where
-    end : (o p q : Bool) → ltb limits.types (length (grown b (whole_text b c))) ≡ p → ltb limits.fields (length (tails_of (grown b (whole_text b c)))) ≡ q
-        → Fits limits (answered b (whole_text b c) ((when o 7) else (when (p || q) 8))).1
-    end true p q e f = room
-    end false true q e f = room
-    end false false true e f = room
-    end false false false e f = (ltb-false limits.types (length (grown b (whole_text b c))) e, ltb-false limits.fields (length (tails_of (grown b (whole_text b c)))) f)
-
-    go : (o : Refusing) → Fits limits (answered b (whole_text b c) (o else late limits (needed b (whole_text b c)))).1
-    go (some e) = room
-    go none = end (ltb longest_form (length (whole_text b c))) (ltb limits.types (length (grown b (whole_text b c)))) (ltb limits.fields (length (tails_of (grown b (whole_text b c))))) refl refl
+    go : (o : Refusing) → (early c (length b) else late limits (needed b (whole_text b c))) ≡ o → Fits limits (answered b (whole_text b c) o).1
+    go (some e) h = room
+    go none h = late_none limits (needed b (whole_text b c)) (else_none _ _ h).1
 
 fits_run : (limits : Limits) (b : List Text) → Fits limits b → (cs : List Call) → Fits limits (run limits b cs).1
 fits_run limits b room [] = room

@@ -15,6 +15,7 @@ use Rattle.book.specs.Nodes
 use Rattle.book.specs.Makers
 use Rattle.book.proofs.Lists.{numbers, same_lists, has_in, not_in, add_old, add_new, add_all_old, add_all_append, add_all_in, place_in, place_out}
 use Rattle.book.proofs.NodeShapes.{same_nodes}
+use Rattle.book.proofs.Calls.{else_none, late_none}
 
 -- the tails of one list of nodes and then of another
 pub tails_append : (T : List (List ℕ)) (b r : List Node) → tails_from T (b ++ r) ≡ tails_from (tails_from T b) r
@@ -87,31 +88,17 @@ module _ (limits : Limits) (b : List Node) (room : Room limits b) where
   same_tails : (fs : List ℕ) → Makers.add_tails (tails_of b) fs ≡ tails_of (add same_node b (structure fs))
   same_tails fs = add_tails_is (tails_of b) fs ∙ sym (tails_with b (structure fs))
 
-  structure_after : (fs : List ℕ) → ltb longest_form (size_of b (structure fs)) ≡ false → Makers.structure_placed limits.types limits.fields b (tails_of b) fs ≡ triple (after limits b (structure fs))
-  structure_after fs s = grind (arith, nat_tests, same_tails fs, entered limits b (structure fs) room, s)
-
-  structure_full : (fs : List ℕ) → empty_list (Plain.structure fs) ≡ none → eqb (length fs) 0 ≡ false
-      → Makers.structure_call limits.types limits.fields b (tails_of b) fs ≡ triple (call limits b (Plain.structure fs))
-  unfolding call
-  structure_full fs n z = grind (arith, nat_tests, first_unknown (length b) fs, first_unit fs, structure_after fs, n, z)
-
   pub structure_same : (fs : List ℕ) → Makers.structure_call limits.types limits.fields b (tails_of b) fs ≡ triple (call limits b (Plain.structure fs))
   unfolding call
   structure_same [] = refl
-  structure_same (f ∷ fs) = structure_full (f ∷ fs) refl (ne_eqb (length (f ∷ fs)) 0 (omega arith))
+  structure_same (f ∷ fs) =
+      grind (arith, nat_tests, first_unknown (length b) (f ∷ fs), first_unit (f ∷ fs), same_tails (f ∷ fs), entered limits b (structure (f ∷ fs)) room)
 
 -- a book within its room stays so
 pub room_kept : (limits : Limits) (b : List Node) → Room limits b → (c : Call) → Room limits (call limits b c).1
 unfolding call
-room_kept limits b room c = go (early c (length b))
+room_kept limits b room c = go (early c (length b) else late limits (Nodes.needed b c)) refl
   where
-    end : (o : Bool) (p q : Bool) → ltb limits.types (length (Nodes.grown b c).1) ≡ p → ltb limits.fields (length (tails_of (Nodes.grown b c).1)) ≡ q
-        → Room limits (answered b (Nodes.grown b c) ((when o 7) else (when (p || q) 8))).1
-    end true p q e f = room
-    end false true q e f = room
-    end false false true e f = room
-    end false false false e f = record { types = ltb-false limits.types (length (Nodes.grown b c).1) e; fields = ltb-false limits.fields (length (tails_of (Nodes.grown b c).1)) f }
-
-    go : (o : Refusing) → Room limits (answered b (Nodes.grown b c) (o else late limits (Nodes.needed b c))).1
-    go (some e) = room
-    go none = end (ltb longest_form (Nodes.size_call b c)) (ltb limits.types (length (Nodes.grown b c).1)) (ltb limits.fields (length (tails_of (Nodes.grown b c).1))) refl refl
+    go : (o : Refusing) → (early c (length b) else late limits (Nodes.needed b c)) ≡ o → Room limits (answered b (Nodes.grown b c) o).1
+    go (some e) h = room
+    go none h = let p = late_none limits (Nodes.needed b c) (else_none _ _ h).1 in record { types = p.0; fields = p.1 }
