@@ -1,5 +1,5 @@
 -- A book whose parts stand before their wholes, and that holds nothing twice, stands for different texts.
-use Rattle.std.proofs.Common.{ℕ, List, [], ◌∷◌, ◌++◌, map, length, sym, refl, ap, ◌∙◌, subst, inl, inr, append_assoc, append-nil}
+use Rattle.std.proofs.Common.{ℕ, List, [], ◌∷◌, ◌++◌, map, length, sym, refl, ap, ◌∙◌, subst, inl, inr, append_assoc, append-nil, arith}
 use Rattle.std.proofs.lemmas.List.{length_push}
 use Rattle.grammar.specs.Lists.{In, Distinct}
 use Rattle.grammar.specs.Shape.{Shape, printed}
@@ -11,8 +11,7 @@ use Rattle.book.proofs.Sound.{Sound, pushed, start}
 
 distinct_mid : {A : Type 0} (pre : List A) (x : A) (xs : List A) → Distinct (pre ++ x ∷ xs) → In x pre → ⊥
 distinct_mid [] x xs d i = i
-distinct_mid {A} (y ∷ pre) x xs d (inl e) = d.0 (subst (λ (z : A). In z (pre ++ x ∷ xs)) (sym e) (in_right x pre (x ∷ xs) (inl refl)))
-distinct_mid (y ∷ pre) x xs d (inr i) = distinct_mid pre x xs d.1 i
+distinct_mid (y ∷ pre) x xs d i = grind (arith, distinct_mid pre x xs, in_right x pre (x ∷ xs))
 
 folded : (xs pre : List Node) (acc : List Shape) → Sound pre acc → Chain (length acc) xs → Distinct (pre ++ xs) → Sound (pre ++ xs) (shapes_from acc xs)
 folded [] pre acc g c d = subst (λ (z : List Node). Sound z acc) (sym (append-nil pre)) g

@@ -77,9 +77,9 @@ module _ (limits : Limits) where
           → ((call limits b c).0 ≡ accepted r.result.number) ⊎ In (accepted r.result.number) (run limits (call limits b c).1 cs).0
           → Left b (call limits b c) ⊎ Taken b (whole_text b c) (call limits b c) → In w (run limits b (c ∷ cs)).1
       go ih (inr j) d = let p = r.result in ih (record { shape = r.shape; result = record { number = p.number; given = j; whole = p.whole; text = p.text; within = p.within }; container = r.container; text = r.text })
-      go ih (inl e) (inl l) = let z : refused l.number l.values ≡ accepted r.result.number = sym l.answer ∙ e in absurd (true≢false cc)
+      go ih (inl e) (inl l) = cc l.answer
       go ih (inl e) (inr t) =
-          let m : number_of (call limits b c).1 (whole_text b c) ≡ r.result.number = let z : accepted (number_of (grown b (whole_text b c)) (whole_text b c)) ≡ accepted r.result.number = sym t.answer ∙ e in ap (λ (z : List Text). number_of z (whole_text b c)) t.book ∙ cc in
+          let m : number_of (call limits b c).1 (whole_text b c) ≡ r.result.number = cc (t.answer, t.book) in
           let q : text_of (run limits b (c ∷ cs)).1 (number_of (call limits b c).1 (whole_text b c)) ≡ whole_text b c = numbered limits (call limits b c).1 (done limits b k c).1 (whole_text b c) (subst (λ (z : List Text). In (whole_text b c) (known z)) (sym t.book) t.written) cs in
           let p : printed r.result.whole ≡ whole_text b c = sym r.result.text ∙ ap (text_of (run limits b (c ∷ cs)).1) (sym m) ∙ q in
           let i : In w (containers_of (reading (whole_text b c))) = subst (λ (z : Text). In w (containers_of (reading z))) p (held r.result.whole r.shape w r.result.within r.container r.text) in
@@ -94,9 +94,9 @@ module _ (limits : Limits) where
           → ((call limits b c).0 ≡ accepted n) ⊎ In (accepted n) (run limits (call limits b c).1 cs).0
           → Left b (call limits b c) ⊎ Taken b (whole_text b c) (call limits b c) → n < length (known (run limits b (c ∷ cs)).1)
       go ih (inr j) d = ih j
-      go ih (inl e) (inl l) = let z : refused l.number l.values ≡ accepted n = sym l.answer ∙ e in absurd (true≢false cc)
+      go ih (inl e) (inl l) = cc l.answer
       go ih (inl e) (inr t) =
-          let m : number_of (grown b (whole_text b c)) (whole_text b c) ≡ n = let z : accepted (number_of (grown b (whole_text b c)) (whole_text b c)) ≡ accepted n = sym t.answer ∙ e in cc in
+          let m : number_of (grown b (whole_text b c)) (whole_text b c) ≡ n = cc t.answer in
           let p = place_in same_texts (known (grown b (whole_text b c))) (whole_text b c) [] t.written in
           let q = longer_run limits (call limits b c).1 (done limits b k c).1 cs in
           let h : length (known (call limits b c).1) ≤ length (known (run limits (call limits b c).1 cs).1) = rw q.1 (known_longer (call limits b c).1 q.0) in
@@ -136,15 +136,10 @@ pub record TailAt (b : List Text) (t : List Text) : Type 0 where
 
 tails_only : (T : List (List Text)) (b : List Text) (t : List Text) → In t (tails_from T b) → In t T ⊎ TailAt b t
 tails_only T [] t i = inl i
-tails_only T (w ∷ b) t i = go (tails_only (add_all (same_list same_text) T (tails (fields_of (reading w)))) b t i)
-  where
-    here : In t T ⊎ In t (tails (fields_of (reading w))) → In t T ⊎ TailAt (w ∷ b) t
-    here (inl j) = inl j
-    here (inr j) = inr (record { of = w; held = inl refl; tail = j })
-
-    go : In t (add_all (same_list same_text) T (tails (fields_of (reading w)))) ⊎ TailAt b t → In t T ⊎ TailAt (w ∷ b) t
-    go (inl j) = here (in_add_all same_tails T (tails (fields_of (reading w))) t j)
-    go (inr r) = inr (record { of = r.of; held = inr r.held; tail = r.tail })
+tails_only T (w ∷ b) t i = elim (tails_only (add_all (same_list same_text) T (tails (fields_of (reading w)))) b t i) [
+  | inl j ↦ elim (in_add_all same_tails T (tails (fields_of (reading w))) t j) [ inl k ↦ inl k | inr k ↦ inr (record { of = w; held = inl refl; tail = k }) ]
+  | inr r ↦ inr (record { of = r.of; held = inr r.held; tail = r.tail })
+]
 
 tails_stay : (T : List (List Text)) (b : List Text) (t : List Text) → In t T → In t (tails_from T b)
 tails_stay T [] t i = i
@@ -168,11 +163,8 @@ tail_of answers b h t r =
 -- what has fields is a container
 with_fields : (s : Shape) (before t : List Text) → map printed (fields s) ≡ before ++ t → (t ≡ [] → ⊥) → Container s
 with_fields (basic c h) [] t e n = absurd (n (sym e))
-with_fields (basic c h) (x ∷ before) t e n = absurd (true≢false cc)
-with_fields (array s) before t e n = tt
-with_fields (maybe s) before t e n = tt
-with_fields (dict a b) before t e n = tt
-with_fields (structure s ts) before t e n = tt
+with_fields (basic c h) (x ∷ before) t e n = cc
+with_fields s before t e n = tt
 
 of_tail : (answers : List Answer) (b : List Text) → ((w : Text) → ContainerText answers b w → In w b) → (t : List Text) → Tail answers b t → In t (tails_of b)
 of_tail answers b h t r =
@@ -213,11 +205,7 @@ facts limits cs =
     }
   where
     of : (w : Text) → In w (run limits [] cs).1 → ContainerText (run limits [] cs).0 (run limits [] cs).1 w
-    of w i = ever (only limits [] none_yet cs w i)
-      where
-        ever : In w [] ⊎ ContainerText (run limits [] cs).0 (run limits [] cs).1 w → ContainerText (run limits [] cs).0 (run limits [] cs).1 w
-        ever (inl i) = absurd i
-        ever (inr r) = r
+    of w i = elim (only limits [] none_yet cs w i) [ inl j ↦ absurd j | inr r ↦ r ]
 
     some_tail : (t : List Text) → In t [] ⊎ TailAt (run limits [] cs).1 t → Tail (run limits [] cs).0 (run limits [] cs).1 t
     some_tail t (inl i) = absurd i
@@ -241,14 +229,14 @@ one_call limits b k room c = go (done limits b k c).0
     go : Left b (call limits b c) ⊎ Taken b (whole_text b c) (call limits b c) → OneMore limits b c
     go (inl l) = record {
       refusal = λ e vs h. l.book;
-      accepts = λ n h. let z : refused l.number l.values ≡ accepted n = sym l.answer ∙ h in absurd (true≢false cc);
+      accepts = λ n h. cc l.answer;
       lasts = lasting;
       again = nothing_new limits b room c;
     }
     go (inr t) = record {
-      refusal = λ e vs h. let z : accepted (number_of (grown b (whole_text b c)) (whole_text b c)) ≡ refused e vs = sym t.answer ∙ h in absurd (true≢false cc);
+      refusal = λ e vs h. cc t.answer;
       accepts = λ n h.
-          let m : number_of (grown b (whole_text b c)) (whole_text b c) ≡ n = let z : accepted (number_of (grown b (whole_text b c)) (whole_text b c)) ≡ accepted n = sym t.answer ∙ h in cc in
+          let m : number_of (grown b (whole_text b c)) (whole_text b c) ≡ n = cc t.answer in
           ap₂ text_of t.book (sym m) ∙ (place_in same_texts (known (grown b (whole_text b c))) (whole_text b c) [] t.written).1;
       lasts = lasting;
       again = nothing_new limits b room c;
