@@ -134,8 +134,8 @@ same_call ns ss g (Plain.structure (n ∷ fs)) f =
 -- What the plain book does, where a book over numbers stands for it.
 pub record Taken (b : List Text) (w : Text) (r : Answer × List Text) : Type 0 where
   pub book : r.1 ≡ grown b w
-  pub answer : r.0 ≡ accepted (number_of (grown b w) w)
-  pub written : In w (known (grown b w))
+  pub answer : r.0 ≡ accepted (number_of r.1 w)
+  pub written : In w (known r.1)
 
 pub record Left (b : List Text) (r : Answer × List Text) : Type 0 where
   pub number : ℕ

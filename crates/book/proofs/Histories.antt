@@ -33,74 +33,69 @@ module _ (limits : Limits) where
   push_text a others b w r = record { shape = r.shape; result = push_result a others b r.shape r.result; container = r.container; text = r.text }
 
   -- what a text holds
-  holds : (s : Shape) (w : Text) → In w (containers_of (reading (printed s))) → (c : Shape) × Within c s × Container c × (w ≡ printed c)
-  holds s w i = let p = map_in printed w (containers s) (rw (reading_printed s) at i) in let q = within s p.0 p.1 in (p.0, q.0, q.1, sym p.2)
+  holds : (v w : Text) (s : Shape) → v ≡ printed s → In w (containers_of (reading v)) → (c : Shape) × Within c s × Container c × (w ≡ printed c)
+  holds v w s o i = let p = map_in printed w (containers s) (rw (o, reading_printed s) at i) in let q = within s p.0 p.1 in (p.0, q.0, q.1, sym p.2)
 
-  held : (s c : Shape) (w : Text) → Within c s → Container c → w ≡ printed c → In w (containers_of (reading (printed s)))
-  held s c w i k e = rw (reading_printed s) (subst (λ (z : Text). In z (map printed (containers s))) (sym e) (in_map printed c (containers s) (met i k)))
+  held : (v w : Text) (s c : Shape) → v ≡ printed s → Within c s → Container c → w ≡ printed c → In w (containers_of (reading v))
+  held v w s c o i k e = rw (o, reading_printed s, e) (in_map printed c (containers s) (met i k))
 
   pub only : (b : List Text) → Backed b → (cs : List Call) (w : Text) → In w (run limits b cs).1 → In w b ⊎ Held b cs w
   only b k [] w i = inl i
-  only b k (c ∷ cs) w i = go (only (call limits b c).1 (done limits b k c).1 cs w i) (done limits b k c).0
-    where
-      new : Taken b (whole_text b c) (call limits b c) → In w b ⊎ In w (containers_of (reading (whole_text b c))) → In w b ⊎ Held b (c ∷ cs) w
-      new t (inl j) = inl j
-      new t (inr j) = shape (known_shape (call limits b c).1 (done limits b k c).1 (whole_text b c) (subst (λ (z : List Text). In (whole_text b c) (known z)) (sym t.book) t.written))
-        where
-          shape : ([] ≡ whole_text b c) ⊎ ((s : Shape) × (printed s ≡ whole_text b c)) → In w b ⊎ Held b (c ∷ cs) w
-          shape (inl e) = absurd (subst (λ (o : Option Shape). In w (containers_of o)) reading_empty (subst (λ (z : Text). In w (containers_of (reading z))) (sym e) j))
-          shape (inr (s, e)) =
-              let h = holds s w (subst (λ (z : Text). In w (containers_of (reading z))) (sym e) j) in
+  only b k (c ∷ cs) w i = elim (only (call limits b c).1 (done limits b k c).1 cs w i) [
+    | inr r ↦ inr (push_text (call limits b c).0 (run limits (call limits b c).1 cs).0 _ w r)
+    | inl j ↦ elim (done limits b k c).0 [
+      | inl l ↦ inl (rw l.book at j)
+      | inr t ↦ elim (in_add_all same_texts b (containers_of (reading (whole_text b c))) w (rw t.book at j)) [
+        | inl h ↦ inl h
+        | inr h ↦ elim (known_shape (call limits b c).1 (done limits b k c).1 (whole_text b c) t.written) [
+          | inl e ↦ absurd (rw (← e, reading_empty) at h)
+          | inr (s, e) ↦ let p = holds (whole_text b c) w s (sym e) h in
               inr (record {
-                shape = h.0;
+                shape = p.0;
                 result = record {
                   number = number_of (call limits b c).1 (whole_text b c);
-                  given = inl (t.answer ∙ ap (λ (z : List Text). accepted (number_of z (whole_text b c))) (sym t.book));
+                  given = inl t.answer;
                   whole = s;
-                  text = numbered limits (call limits b c).1 (done limits b k c).1 (whole_text b c) (subst (λ (z : List Text). In (whole_text b c) (known z)) (sym t.book) t.written) cs ∙ sym e;
-                  within = h.1;
+                  text = numbered limits (call limits b c).1 (done limits b k c).1 (whole_text b c) t.written cs ∙ sym e;
+                  within = p.1;
                 };
-                container = h.2;
-                text = h.3;
+                container = p.2;
+                text = p.3;
               })
-
-      go : In w (call limits b c).1 ⊎ Held (call limits b c).1 cs w → Left b (call limits b c) ⊎ Taken b (whole_text b c) (call limits b c) → In w b ⊎ Held b (c ∷ cs) w
-      go (inr r) d = inr (push_text (call limits b c).0 (run limits (call limits b c).1 cs).0 _ w r)
-      go (inl j) (inl l) = inl (subst (λ (z : List Text). In w z) l.book j)
-      go (inl j) (inr t) = new t (in_add_all same_texts b (containers_of (reading (whole_text b c))) w (subst (λ (z : List Text). In w z) t.book j))
+        ]
+      ]
+    ]
+  ]
 
   pub every : (b : List Text) → Backed b → (cs : List Call) (w : Text) → Held b cs w → In w (run limits b cs).1
   every b k [] w r = absurd r.result.given
-  every b k (c ∷ cs) w r = go (every (call limits b c).1 (done limits b k c).1 cs w) r.result.given (done limits b k c).0
-    where
-      go : (Held (call limits b c).1 cs w → In w (run limits (call limits b c).1 cs).1)
-          → ((call limits b c).0 ≡ accepted r.result.number) ⊎ In (accepted r.result.number) (run limits (call limits b c).1 cs).0
-          → Left b (call limits b c) ⊎ Taken b (whole_text b c) (call limits b c) → In w (run limits b (c ∷ cs)).1
-      go ih (inr j) d = let p = r.result in ih (record { shape = r.shape; result = record { number = p.number; given = j; whole = p.whole; text = p.text; within = p.within }; container = r.container; text = r.text })
-      go ih (inl e) (inl l) = cc l.answer
-      go ih (inl e) (inr t) =
-          let m : number_of (call limits b c).1 (whole_text b c) ≡ r.result.number = cc (t.answer, t.book) in
-          let q : text_of (run limits b (c ∷ cs)).1 (number_of (call limits b c).1 (whole_text b c)) ≡ whole_text b c = numbered limits (call limits b c).1 (done limits b k c).1 (whole_text b c) (subst (λ (z : List Text). In (whole_text b c) (known z)) (sym t.book) t.written) cs in
-          let p : printed r.result.whole ≡ whole_text b c = sym r.result.text ∙ ap (text_of (run limits b (c ∷ cs)).1) (sym m) ∙ q in
-          let i : In w (containers_of (reading (whole_text b c))) = subst (λ (z : Text). In w (containers_of (reading z))) p (held r.result.whole r.shape w r.result.within r.container r.text) in
-          stays limits (call limits b c).1 (done limits b k c).1 cs w (subst (λ (z : List Text). In w z) (sym t.book) (add_all_in same_texts b (containers_of (reading (whole_text b c))) w (inr i)))
+  every b k (c ∷ cs) w r = let p = r.result in elim p.given [
+    | inr j ↦ every (call limits b c).1 (done limits b k c).1 cs w (record { shape = r.shape; result = record { number = p.number; given = j; whole = p.whole; text = p.text; within = p.within }; container = r.container; text = r.text })
+    | inl e ↦ elim (done limits b k c).0 [
+      | inl l ↦ cc l.answer
+      | inr t ↦
+          let m : number_of (call limits b c).1 (whole_text b c) ≡ p.number = cc t.answer in
+          let o : whole_text b c ≡ printed p.whole = cc (p.text, numbered limits (call limits b c).1 (done limits b k c).1 (whole_text b c) t.written cs) in
+          stays limits (call limits b c).1 (done limits b k c).1 cs w
+          (rw t.book (add_all_in same_texts b (containers_of (reading (whole_text b c))) w (inr (held (whole_text b c) w p.whole r.shape o p.within r.container r.text))))
+    ]
+  ]
 
   -- the numbers answered are the book's
   pub answered_known : (b : List Text) → Backed b → (cs : List Call) (n : ℕ) → In (accepted n) (run limits b cs).0 → n < length (known (run limits b cs).1)
   answered_known b k [] n i = absurd i
-  answered_known b k (c ∷ cs) n i = go (answered_known (call limits b c).1 (done limits b k c).1 cs n) i (done limits b k c).0
-    where
-      go : (In (accepted n) (run limits (call limits b c).1 cs).0 → n < length (known (run limits (call limits b c).1 cs).1))
-          → ((call limits b c).0 ≡ accepted n) ⊎ In (accepted n) (run limits (call limits b c).1 cs).0
-          → Left b (call limits b c) ⊎ Taken b (whole_text b c) (call limits b c) → n < length (known (run limits b (c ∷ cs)).1)
-      go ih (inr j) d = ih j
-      go ih (inl e) (inl l) = cc l.answer
-      go ih (inl e) (inr t) =
-          let m : number_of (grown b (whole_text b c)) (whole_text b c) ≡ n = cc t.answer in
-          let p = place_in same_texts (known (grown b (whole_text b c))) (whole_text b c) [] t.written in
+  answered_known b k (c ∷ cs) n i = elim i [
+    | inr j ↦ answered_known (call limits b c).1 (done limits b k c).1 cs n j
+    | inl e ↦ elim (done limits b k c).0 [
+      | inl l ↦ cc l.answer
+      | inr t ↦
+          let m : number_of (call limits b c).1 (whole_text b c) ≡ n = cc t.answer in
+          let p = place_in same_texts (known (call limits b c).1) (whole_text b c) [] t.written in
           let q = longer_run limits (call limits b c).1 (done limits b k c).1 cs in
           let h : length (known (call limits b c).1) ≤ length (known (run limits (call limits b c).1 cs).1) = rw q.1 (known_longer (call limits b c).1 q.0) in
-          omega (arith, p.0, m, ap (λ (z : List Text). length (known z)) t.book)
+          omega (arith, p.0, m)
+    ]
+  ]
 
 -- no text stands twice
 pub distinct_right : {A : Type 0} (xs ys : List A) → Distinct (xs ++ ys) → Distinct ys
@@ -227,17 +222,12 @@ one_call limits b k room c = go (done limits b k c).0
     lasting n l = let p = longer_call limits b k c in ap (λ (z : List Text). text_of z n) p.1 ∙ known_keeps b p.0 n l
 
     go : Left b (call limits b c) ⊎ Taken b (whole_text b c) (call limits b c) → OneMore limits b c
-    go (inl l) = record {
-      refusal = λ e vs h. l.book;
-      accepts = λ n h. cc l.answer;
-      lasts = lasting;
-      again = nothing_new limits b room c;
-    }
+    go (inl l) = record { refusal = λ e vs h. l.book; accepts = λ n h. cc l.answer; lasts = lasting; again = nothing_new limits b room c }
     go (inr t) = record {
       refusal = λ e vs h. cc t.answer;
       accepts = λ n h.
-          let m : number_of (grown b (whole_text b c)) (whole_text b c) ≡ n = cc t.answer in
-          ap₂ text_of t.book (sym m) ∙ (place_in same_texts (known (grown b (whole_text b c))) (whole_text b c) [] t.written).1;
+          let m : number_of (call limits b c).1 (whole_text b c) ≡ n = cc t.answer in
+          ap (text_of (call limits b c).1) (sym m) ∙ (place_in same_texts (known (call limits b c).1) (whole_text b c) [] t.written).1;
       lasts = lasting;
       again = nothing_new limits b room c;
     }
