@@ -1,6 +1,7 @@
 -- What the plain book holds after any calls.
 use Rattle.std.proofs.Common.{◌≡◌, ℕ, ◌<◌, ◌≤◌, Bool, true, false, ◌||◌, ltb, ◌⊎◌, List, [], ◌∷◌, ◌++◌, map, length, sym, refl, ap, ◌∙◌, subst, ap₂, inl, inr, true≢false, arith, length-append}
 use mathlib.Core.Option.{Option, none, some}
+use Rattle.std.proofs.lemmas.Bool.Decides.{nat_tests}
 use Rattle.std.proofs.lemmas.Bool.{ltb-false, le-ltb}
 use Rattle.grammar.specs.Lists.{In, Distinct, same_list, add_all, tails}
 use Rattle.grammar.specs.Shape.{Text, basic_codes, Shape, basic, array, maybe, dict, structure, printed}
@@ -192,7 +193,7 @@ facts limits cs =
       distinct = backed_distinct (run limits [] cs).1 k;
       texts = λ w. (of w, every limits [] none_yet cs w);
       distinct_tails = tails_distinct [] (run limits [] cs).1 tt;
-      tails = λ t. (λ i. some_tail t (tails_only [] (run limits [] cs).1 t i), of_tail (run limits [] cs).0 (run limits [] cs).1 (every limits [] none_yet cs) t);
+      tails = λ t. (λ i. elim (tails_only [] (run limits [] cs).1 t i) [ inl j ↦ absurd j | inr r ↦ tail_of (run limits [] cs).0 (run limits [] cs).1 of t r ], of_tail (run limits [] cs).0 (run limits [] cs).1 (every limits [] none_yet cs) t);
       types = (fits_run limits [] (omega arith) cs).0;
       fields = (fits_run limits [] (omega arith) cs).1;
       numbers = answered_known limits [] none_yet cs;
@@ -202,17 +203,13 @@ facts limits cs =
     of : (w : Text) → In w (run limits [] cs).1 → ContainerText (run limits [] cs).0 (run limits [] cs).1 w
     of w i = elim (only limits [] none_yet cs w i) [ inl j ↦ absurd j | inr r ↦ r ]
 
-    some_tail : (t : List Text) → In t [] ⊎ TailAt (run limits [] cs).1 t → Tail (run limits [] cs).0 (run limits [] cs).1 t
-    some_tail t (inl i) = absurd i
-    some_tail t (inr r) = tail_of (run limits [] cs).0 (run limits [] cs).1 of t r
-
 -- nothing new
 nothing_new : (limits : Limits) (b : List Text) → Fits limits b → (c : Call) → early c (length b) ≡ none → length (whole_text b c) ≤ longest_form
     → ((w : Text) → In w (containers_of (reading (whole_text b c))) → In w b) → call limits b c ≡ (accepted (number_of b (whole_text b c)), b)
 unfolding call
 nothing_new limits b room c e l h =
     let g : grown b (whole_text b c) ≡ b = add_all_old same_texts b (containers_of (reading (whole_text b c))) h in
-    rw e (rw g (rw (le-ltb longest_form (length (whole_text b c)) l) (rw (le-ltb limits.types (length b) room.0) (rw (le-ltb limits.fields (length (tails_of b)) room.1) (λ i. (accepted (number_of (g i) (whole_text b c)), g i))))))
+    grind (arith, nat_tests, room.0, room.1)
 
 -- one call
 one_call : (limits : Limits) (b : List Text) → Backed b → Fits limits b → (c : Call) → OneMore limits b c

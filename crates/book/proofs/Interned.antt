@@ -62,18 +62,18 @@ entered ns ss g x k = go (cases_Bool (has same_node ns x))
           texts = map_push printed ss (node_shape ss x) ∙ sym (add_new same_texts (map printed ss) (printed (node_shape ss x)) m);
         }
 
-pub wrap : (ss : List Shape) (s : Shape) (mid : List Text) (ns : List Node) (new rest : List Shape) → new ≡ ss ++ rest → Sound ns new → map printed new ≡ mid
-    → (x : Node) → Known (length new) x → node_shape new x ≡ s → Made ss s (add same_text mid (printed s)) (enter ns x)
-wrap ss s mid ns new rest e g t x k i =
+wrap : (ss : List Shape) (s : Shape) (mid after : List Text) (ns : List Node) (new rest : List Shape) → after ≡ add same_text mid (printed s) → new ≡ ss ++ rest → Sound ns new → map printed new ≡ mid
+    → (x : Node) → Known (length new) x → node_shape new x ≡ s → Made ss s after (enter ns x)
+wrap ss s mid after ns new rest a e g t x k i =
     let m = entered ns new g x k in
     record {
       new = m.new;
       rest = rest ++ m.rest;
-      longer = m.longer ∙ ap (λ (z : List Shape). z ++ m.rest) e ∙ append_assoc ss rest m.rest;
+      longer = cc (m.longer, append_assoc ss rest m.rest);
       sound = m.sound;
       part = m.part;
       is = m.is ∙ i;
-      texts = m.texts ∙ ap₂ (λ (z : List Text) (u : Shape). add same_text z (printed u)) t i;
+      texts = cc m.texts;
     }
 
 pub record MadeAll (ss : List Shape) (ts : Shapes) (after : List Text) (r : List ℕ × List Node) : Type 0 where
@@ -110,9 +110,6 @@ letter_shape c h =
 kept_at : (ss r new : List Shape) → new ≡ ss ++ r → (n : ℕ) → Part (length ss) n → Part (length new) n × (shape_at new n ≡ shape_at ss n)
 kept_at ss r new e n p = (omega (arith, ap length e, length-append ss r), ap (λ (z : List Shape). shape_at z n) e ∙ at_more ss r n p)
 
-add_last : (b : List Text) (xs : List Shape) (s : Shape) → add_all same_text b (map printed (xs ++ s ∷ [])) ≡ add same_text (add_all same_text b (map printed xs)) (printed s)
-add_last b xs s = ap (add_all same_text b) (map-append printed xs (s ∷ [])) ∙ add_all_append same_texts b (map printed xs) (printed s ∷ [])
-
 add_both : (b : List Text) (xs ys : List Shape) → add_all same_text b (map printed (xs ++ ys)) ≡ add_all same_text (add_all same_text b (map printed xs)) (map printed ys)
 add_both b xs ys = ap (add_all same_text b) (map-append printed xs ys) ∙ add_all_append same_texts b (map printed xs) (map printed ys)
 
@@ -134,32 +131,28 @@ mutual
       }
   interned (Shape.array t) ns ss g =
       let m = interned t ns ss g in
-      subst (λ (z : List Text). Made ss (Shape.array t) z (intern (Shape.array t) ns)) (sym (add_last (map printed ss) (containers t) (Shape.array t)))
-      (wrap ss (Shape.array t) (put ss (containers t)) (intern t ns).1 m.new m.rest m.longer m.sound m.texts (array (intern t ns).0) m.part (ap Shape.array m.is))
+      wrap ss (Shape.array t) (put ss (containers t)) _ (intern t ns).1 m.new m.rest (add_both (map printed ss) (containers t) (Shape.array t ∷ [])) m.longer m.sound m.texts
+      (array (intern t ns).0) m.part (ap Shape.array m.is)
   interned (Shape.maybe t) ns ss g =
       let m = interned t ns ss g in
-      subst (λ (z : List Text). Made ss (Shape.maybe t) z (intern (Shape.maybe t) ns)) (sym (add_last (map printed ss) (containers t) (Shape.maybe t)))
-      (wrap ss (Shape.maybe t) (put ss (containers t)) (intern t ns).1 m.new m.rest m.longer m.sound m.texts (maybe (intern t ns).0) m.part (ap Shape.maybe m.is))
+      wrap ss (Shape.maybe t) (put ss (containers t)) _ (intern t ns).1 m.new m.rest (add_both (map printed ss) (containers t) (Shape.maybe t ∷ [])) m.longer m.sound m.texts
+      (maybe (intern t ns).0) m.part (ap Shape.maybe m.is)
   interned (Shape.dict t u) ns ss g =
       let m = interned t ns ss g in
       let q = interned u (intern t ns).1 m.new m.sound in
       let k = kept_at m.new q.rest q.new q.longer (intern t ns).0 m.part in
-      subst (λ (z : List Text). Made ss (Shape.dict t u) z (intern (Shape.dict t u) ns))
-      (sym (add_both (map printed ss) (containers t) (containers u ++ Shape.dict t u ∷ []) ∙ add_last (put ss (containers t)) (containers u) (Shape.dict t u)))
-      (wrap ss (Shape.dict t u) (add_all same_text (put ss (containers t)) (map printed (containers u))) (intern u (intern t ns).1).1 q.new (m.rest ++ q.rest)
-      (q.longer ∙ ap (λ (z : List Shape). z ++ q.rest) m.longer ∙ append_assoc ss m.rest q.rest) q.sound
-      (q.texts ∙ ap (λ (z : List Text). add_all same_text z (map printed (containers u))) m.texts)
-      (dict (intern t ns).0 (intern u (intern t ns).1).0) (k.0, q.part) (ap₂ Shape.dict (k.1 ∙ m.is) q.is))
+      wrap ss (Shape.dict t u) (add_all same_text (put ss (containers t)) (map printed (containers u))) _ (intern u (intern t ns).1).1 q.new (m.rest ++ q.rest)
+      (add_both (map printed ss) (containers t) (containers u ++ Shape.dict t u ∷ []) ∙ add_both (put ss (containers t)) (containers u) (Shape.dict t u ∷ []))
+      (cc (m.longer, q.longer, append_assoc ss m.rest q.rest)) q.sound (cc (m.texts, q.texts))
+      (dict (intern t ns).0 (intern u (intern t ns).1).0) (k.0, q.part) (ap₂ Shape.dict (k.1 ∙ m.is) q.is)
   interned (Shape.structure t ts) ns ss g =
       let m = interned t ns ss g in
       let q = interned_all ts (intern t ns).1 m.new m.sound in
       let k = kept_at m.new q.rest q.new q.longer (intern t ns).0 m.part in
-      subst (λ (z : List Text). Made ss (Shape.structure t ts) z (intern (Shape.structure t ts) ns))
-      (sym (add_both (map printed ss) (containers t) (containers_all ts ++ Shape.structure t ts ∷ []) ∙ add_last (put ss (containers t)) (containers_all ts) (Shape.structure t ts)))
-      (wrap ss (Shape.structure t ts) (add_all same_text (put ss (containers t)) (map printed (containers_all ts))) (intern_all ts (intern t ns).1).1 q.new (m.rest ++ q.rest)
-      (q.longer ∙ ap (λ (z : List Shape). z ++ q.rest) m.longer ∙ append_assoc ss m.rest q.rest) q.sound
-      (q.texts ∙ ap (λ (z : List Text). add_all same_text z (map printed (containers_all ts))) m.texts)
-      (structure ((intern t ns).0 ∷ (intern_all ts (intern t ns).1).0)) (k.0, q.parts) (ap₂ Shape.structure (k.1 ∙ m.is) q.is))
+      wrap ss (Shape.structure t ts) (add_all same_text (put ss (containers t)) (map printed (containers_all ts))) _ (intern_all ts (intern t ns).1).1 q.new (m.rest ++ q.rest)
+      (add_both (map printed ss) (containers t) (containers_all ts ++ Shape.structure t ts ∷ []) ∙ add_both (put ss (containers t)) (containers_all ts) (Shape.structure t ts ∷ []))
+      (cc (m.longer, q.longer, append_assoc ss m.rest q.rest)) q.sound (cc (m.texts, q.texts))
+      (structure ((intern t ns).0 ∷ (intern_all ts (intern t ns).1).0)) (k.0, q.parts) (ap₂ Shape.structure (k.1 ∙ m.is) q.is)
 
   pub interned_all : (ts : Shapes) (ns : List Node) (ss : List Shape) → Sound ns ss → MadeAll ss ts (put ss (containers_all ts)) (intern_all ts ns)
   interned_all nil ns ss g = record { new = ss; rest = []; longer = sym (append-nil ss); sound = g; parts = tt; is = refl; texts = refl }
@@ -170,11 +163,11 @@ mutual
       record {
         new = q.new;
         rest = m.rest ++ q.rest;
-        longer = q.longer ∙ ap (λ (z : List Shape). z ++ q.rest) m.longer ∙ append_assoc ss m.rest q.rest;
+        longer = cc (m.longer, q.longer, append_assoc ss m.rest q.rest);
         sound = q.sound;
         parts = (k.0, q.parts);
         is = ap₂ more (k.1 ∙ m.is) q.is;
-        texts = q.texts ∙ ap (λ (z : List Text). add_all same_text z (map printed (containers_all ts))) m.texts ∙ sym (add_both (map printed ss) (containers t) (containers_all ts));
+        texts = cc (m.texts, q.texts, add_both (map printed ss) (containers t) (containers_all ts));
       }
 
 -- numbers and texts
