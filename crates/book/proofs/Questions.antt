@@ -1,10 +1,11 @@
 -- The questions, answered from the texts and from the nodes, have the same answers.
-use Rattle.std.proofs.Common.{◌≡◌, ℕ, zero, suc, ◌+◌, ◌-◌, ◌<◌, ◌≤◌, Bool, true, false, cond, eqb, ltb, List, [], ◌∷◌, map, length, get_or, Some, codes, sym, refl, ap, ◌∙◌, arith}
+use Rattle.std.proofs.Common.{inl, inr, ◌≡◌, ℕ, zero, suc, ◌+◌, ◌-◌, ◌<◌, ◌≤◌, Bool, true, false, cond, eqb, ltb, List, [], ◌∷◌, map, length, get_or, Some, codes, sym, refl, ap, ◌∙◌, arith}
 use mathlib.Core.Option.{Option, none, some}
 use native.Mathlib.Decide.{dec_lt}
 use lib.ListN.{length-map}
 use Rattle.std.proofs.lemmas.List.{get_or_append_left, get_or-map, get_or_default}
-use Rattle.std.proofs.lemmas.Bool.{lt-ltb, le-ltb, ne_eqb}
+use Rattle.std.proofs.lemmas.Bool.Decides.{nat_tests}
+use Rattle.std.proofs.lemmas.Bool.{lt-ltb, le-ltb, ne_eqb, cases_lt}
 use Rattle.grammar.specs.declared.figures.Figures.{Figures}
 use Rattle.grammar.specs.Lists.{has}
 use Rattle.grammar.specs.Shape.{Text, is_basic, Shape, basic, printed}
@@ -34,11 +35,7 @@ texts_count ns g = length-map (shapes_from [] ns) printed ∙ sym (as_many ns (s
 
 -- what is asked of a known number
 if_known_is : {A : Type 0} (ns : List Node) → Good ns → (n : ℕ) (x y : Outcome A) → (n < 15 + length ns → x ≡ y) → if_known (length (texts_of ns)) n x ≡ if_known (length ns) n y
-if_known_is ns g n x y h = rw (texts_count ns g) (go (dec_lt n (15 + length ns)))
-  where
-    go : Dec (n < 15 + length ns) → if_known (length ns) n x ≡ if_known (length ns) n y
-    go (yes l) = rw (lt-ltb n (15 + length ns) l) (h l)
-    go (no l) = rw (le-ltb n (15 + length ns) (omega arith))
+if_known_is ns g n x y h = rw (texts_count ns g) (grind (arith, nat_tests, h))
 
 code_at : (ss : List Shape) (n : ℕ) → 0 < n → n < 15 → Code (shape_at ss n)
 code_at ss n p l = let c = basics_count in
@@ -82,55 +79,44 @@ module _ (ns : List Node) (g : Good ns) where
       node : (x : Node) → Known (length (shapes_from [] ns)) x → child_by (texts_of ns) (some (node_shape (shapes_from [] ns) x)) ≡ node_child x
       node (array n) k = ap accepted (number n k)
       node (maybe n) k = ap accepted (number n k)
-      node (dict a b) k = refl
       node (structure []) k = absurd k
-      node (structure (n ∷ fs)) k = refl
+      node x k = refl
 
   pub key_agrees : (n : ℕ) → key_of (texts_of ns) n ≡ node_answer node_dict_key ns n
   unfolding key_of
   key_agrees = asked (key_by (texts_of ns)) node_dict_key refl (λ c h. refl) node
     where
       node : (x : Node) → Known (length (shapes_from [] ns)) x → key_by (texts_of ns) (some (node_shape (shapes_from [] ns) x)) ≡ node_dict_key x
-      node (array n) k = refl
-      node (maybe n) k = refl
       node (dict a b) k = ap accepted (number a k.0)
       node (structure []) k = absurd k
-      node (structure (n ∷ fs)) k = refl
+      node x k = refl
 
   pub value_agrees : (n : ℕ) → value_of (texts_of ns) n ≡ node_answer node_dict_value ns n
   unfolding value_of
   value_agrees = asked (value_by (texts_of ns)) node_dict_value refl (λ c h. refl) node
     where
       node : (x : Node) → Known (length (shapes_from [] ns)) x → value_by (texts_of ns) (some (node_shape (shapes_from [] ns) x)) ≡ node_dict_value x
-      node (array n) k = refl
-      node (maybe n) k = refl
       node (dict a b) k = ap accepted (number b k.1)
       node (structure []) k = absurd k
-      node (structure (n ∷ fs)) k = refl
+      node x k = refl
 
   -- a question about the fields
   of_fields : {A : Type 0} (f : List Text → Outcome A) (h : List ℕ → Outcome A) → ((t : List ℕ) (u : List Text) → AllZip (Num (shapes_from [] ns)) t u → f u ≡ h t)
       → (x : Node) → Known (length (shapes_from [] ns)) x → fields_by f (some (node_shape (shapes_from [] ns) x)) ≡ node_fields h x
-  of_fields f h e (array n) k = refl
-  of_fields f h e (maybe n) k = refl
-  of_fields f h e (dict a b) k = refl
   of_fields f h e (structure []) k = absurd k
   of_fields f h e (structure (n ∷ fs)) k = e (n ∷ fs) (map printed (fields (node_shape (shapes_from [] ns) (structure (n ∷ fs))))) (node_fields_are (shapes_from [] ns) (structure (n ∷ fs)) k)
+  of_fields f h e x k = refl
 
   pub len_agrees : (n : ℕ) → len_of (texts_of ns) n ≡ node_answer node_len ns n
   unfolding len_of
   len_agrees = asked (fields_by (λ fs. accepted (length fs))) node_len refl (λ c h. refl) (of_fields (λ fs. accepted (length fs)) (λ fs. accepted (length fs)) (λ t u a. ap accepted (AllZip-long (Num (shapes_from [] ns)) t u a)))
 
   item : (i : ℕ) (t : List ℕ) (u : List Text) → AllZip (Num (shapes_from [] ns)) t u → number_at (texts_of ns) u i ≡ item_at t i
-  item i t u a = go (dec_lt i (length t))
-    where
-      l : length u ≡ length t
-      l = AllZip-long (Num (shapes_from [] ns)) t u a
-
-      go : Dec (i < length t) → number_at (texts_of ns) u i ≡ item_at t i
-      go (yes h) = let r = get_or2 (Num (shapes_from [] ns)) t u i 0 [] h a in
-          rw (lt-ltb i (length t) h, lt-ltb i (length u) (omega (arith, l))) (ap Some (ap (number_of (texts_of ns)) r.1 ∙ number (get_or t i 0) r.0))
-      go (no h) = rw (le-ltb i (length t) (omega arith), le-ltb i (length u) (omega (arith, l)))
+  item i t u a = let l = AllZip-long (Num (shapes_from [] ns)) t u a in elim (cases_lt i (length t)) [
+    | inl h ↦ let r = get_or2 (Num (shapes_from [] ns)) t u i 0 [] h a in
+        rw (lt-ltb i (length t) h, lt-ltb i (length u) (omega arith)) (ap Some (ap (number_of (texts_of ns)) r.1 ∙ number (get_or t i 0) r.0))
+    | inr h ↦ rw (le-ltb i (length t) h, le-ltb i (length u) (omega arith))
+  ]
 
   pub get_agrees : (n i : ℕ) → get_of (texts_of ns) n i ≡ node_answer (node_get i) ns n
   unfolding get_of
@@ -158,12 +144,7 @@ module _ (ns : List Node) (g : Good ns) where
 
   pub equal_agrees : (m n : ℕ) → equal_of (texts_of ns) m n ≡ equal_answer ns m n
   unfolding equal_of
-  equal_agrees m n = if_known_is ns g m _ _ (λ l. rw (texts_count ns g) (go l (dec_lt n (15 + length ns))))
-    where
-      go : m < 15 + length ns → Dec (n < 15 + length ns)
-          → cond (ltb n (15 + length ns)) (accepted (same_text (text_of (texts_of ns) m) (text_of (texts_of ns) n))) (refused 3 (1 ∷ [])) ≡ cond (ltb n (15 + length ns)) (accepted (eqb m n)) (refused 3 (1 ∷ []))
-      go l (yes h) = rw (lt-ltb n (15 + length ns) h) (ap accepted (same_number m n l h))
-      go l (no h) = rw (le-ltb n (15 + length ns) (omega arith))
+  equal_agrees m n = if_known_is ns g m _ _ (λ l. rw (texts_count ns g) (grind (arith, nat_tests, same_number m n l)))
 
 -- What is asked of a number that is not known.
 module _ {A : Type 0} (q : Node → Outcome A) (ns : List Node) where
@@ -172,13 +153,7 @@ module _ {A : Type 0} (q : Node → Outcome A) (ns : List Node) where
 
 -- Each signature has an alignment in GVariant.
 code_aligned : (c : ℕ) → 0 < gvariant_of_code c
-code_aligned c = by (has eqb (codes "ybsog") c) (has eqb (codes "nq") c) (has eqb (codes "xtdv") c)
-  where
-    by : (p q r : Bool) → 0 < cond p 1 (cond q 2 (cond r 8 4))
-    by true q r = omega arith
-    by false true r = omega arith
-    by false false true = omega arith
-    by false false false = omega arith
+code_aligned c = grind arith
 
 shape_aligned : (t : Shape) → 0 < gvariant_alignment t
 shape_aligned (basic c h) = code_aligned c

@@ -27,17 +27,15 @@ module _ (ns : List Node) (ss : List Shape) (g : Sound ns ss) where
 
   tail_number_is : (t : List ℕ) (u : List Text) → AllZip (Num ss) t u → text_tail_number (tails_of (map printed ss)) u ≡ tail_number (Nodes.tails_of ns) t
   tail_number_is [] [] a = refl
-  tail_number_is [] (f ∷ u) a = absurd a
-  tail_number_is (n ∷ t) [] a = absurd a
   tail_number_is (n ∷ t) (f ∷ u) a = ap (λ (k : ℕ). k + 1) (sym (place2 (same_list eqb) (same_list same_text) (AllZip (Num ss)) (same_list2 eqb same_text (Num ss) (keep_num ss g.apart))
       (Nodes.tails_of ns) (tails_of (map printed ss)) (n ∷ t) (f ∷ u) (tails_related ns ss g) a))
+  tail_number_is t u a = absurd a
 
   tail_key_is : (t : List ℕ) (u : List Text) → AllZip (Num ss) t u → field_key_of (map printed ss) u ≡ tail_key (Nodes.tails_of ns) t
   unfolding field_key_of
   tail_key_is [] [] a = refl
-  tail_key_is [] (f ∷ u) a = absurd a
-  tail_key_is (n ∷ t) [] a = absurd a
   tail_key_is (n ∷ t) (f ∷ u) a = rw (a.0.1, number_at_is n a.0.0, tail_number_is t u a.1, AllZip-long (Num ss) t u a.1)
+  tail_key_is t u a = absurd a
 
   node_key_is : (x : Node) → Known (length ss) x → shape_key (map printed ss) (some (node_shape ss x)) ≡ node_key (Nodes.tails_of ns) x
   node_key_is (array n) k = rw (number_at_is n k)

@@ -19,11 +19,9 @@ nums ss [] p = tt
 nums ss (n ∷ ns) p = ((p.0, refl), nums ss ns p.1)
 
 pub node_fields_are : (ss : List Shape) (x : Node) → Known (length ss) x → AllZip (Num ss) (Nodes.fields_of x) (map printed (fields (node_shape ss x)))
-node_fields_are ss (array n) k = tt
-node_fields_are ss (maybe n) k = tt
-node_fields_are ss (dict a b) k = tt
 node_fields_are ss (structure []) k = absurd k
 node_fields_are ss (structure (n ∷ ns)) k = ((k.0, refl), nums ss ns k.1)
+node_fields_are ss x k = tt
 
 row_fields : (ss : List Shape) (x : Node) (w : Text) → Row ss x w → AllZip (Num ss) (Nodes.fields_of x) (fields_of (reading w))
 row_fields ss x w r = rw (r.1, reading_printed (node_shape ss x)) (node_fields_are ss x r.0)
@@ -31,13 +29,12 @@ row_fields ss x w r = rw (r.1, reading_printed (node_shape ss x)) (node_fields_a
 tails_from_is : (ss : List Shape) → Distinct (basics ++ ss) → (T : List (List ℕ)) (U : List (List Text)) (ns : List Node) (ws : List Text)
     → AllZip (AllZip (Num ss)) T U → AllZip (Row ss) ns ws → AllZip (AllZip (Num ss)) (Nodes.tails_from T ns) (tails_from U ws)
 tails_from_is ss d T U [] [] a r = a
-tails_from_is ss d T U [] (w ∷ ws) a r = absurd r
-tails_from_is ss d T U (x ∷ ns) [] a r = absurd r
 tails_from_is ss d T U (x ∷ ns) (w ∷ ws) a r =
     tails_from_is ss d (add_all (same_list eqb) T (tails (Nodes.fields_of x))) (add_all (same_list same_text) U (tails (fields_of (reading w)))) ns ws
     (add_all2 (same_list eqb) (same_list same_text) (AllZip (Num ss)) (same_list2 eqb same_text (Num ss) (keep_num ss d))
     T U (tails (Nodes.fields_of x)) (tails (fields_of (reading w))) a (tails2 (Num ss) (Nodes.fields_of x) (fields_of (reading w)) (row_fields ss x w r.0)))
     r.1
+tails_from_is ss d T U ns ws a r = absurd r
 
 pub tails_related : (ns : List Node) (ss : List Shape) → Sound ns ss → AllZip (AllZip (Num ss)) (Nodes.tails_of ns) (tails_of (map printed ss))
 tails_related ns ss g = tails_from_is ss g.apart [] [] ns (map printed ss) tt g.each
