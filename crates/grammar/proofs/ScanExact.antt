@@ -74,15 +74,14 @@ Stops b TooDeep = (b ≡ 97) ⊎ (b ≡ 40)
 Stops b Unexpected = (b ≡ 97) ⊎ (b ≡ 40) → ⊥
 
 stops : (s a b : ℕ) (k : List Frame) (c : Cause) → begin s a b k ≡ stop c → Stops b c
-stops s a b k c e = by (begins s a b k)
-  where
-    by : Begins s a b k → Stops b c
-    by (is_code h g) = cc
-    by (is_maybe q g) = cc
-    by (is_array q h g) = cc
-    by (is_structure q h g) = cc
-    by (is_deep q g) = let z : TooDeep ≡ c = cc in subst (Stops b) z q
-    by (is_other p q g) = let z : Unexpected ≡ c = cc in subst (Stops b) z (λ o. elim o [ inl x ↦ p x | inr x ↦ q x ])
+stops s a b k c e = elim (begins s a b k) [
+  | is_code h g ↦ cc
+  | is_maybe q g ↦ cc
+  | is_array q h g ↦ cc
+  | is_structure q h g ↦ cc
+  | is_deep q g ↦ let z : TooDeep ≡ c = cc in subst (Stops b) z q
+  | is_other p q g ↦ let z : Unexpected ≡ c = cc in subst (Stops b) z (λ o. elim o [ inl x ↦ p x | inr x ↦ q x ])
+]
 
 -- a stack's first byte: a type's, where one may begin, or another
 data Top (k : List Frame) (b : ℕ) : Type 0 where
@@ -100,28 +99,13 @@ first (element s a ∷ k) b = elim (cases_eq b 123) [ inl q ↦ goes (one s a �
 first (close ∷ k) b = elim (cases_eq b 125) [ inl q ↦ goes k (rw q) | inr q ↦ closes (step_close_not b k q) (λ x h. step_close_not x k h) ]
 
 never_ended : (k : List Frame) (b : ℕ) → step k b ≡ stop Ended → ⊥
-never_ended k b e = by (first k b)
-  where
-    by : Top k b → ⊥
-    by (opening s a l h g) = stops s a b l Ended (sym h ∙ e)
-    by (goes l h) = cc
-    by (closes h g) = cc
+never_ended k b e = elim (first k b) [ opening s a l h g ↦ stops s a b l Ended (sym h ∙ e) | goes l h ↦ cc | closes h g ↦ cc ]
 
 deep_opens : (k : List Frame) (b : ℕ) → step k b ≡ stop TooDeep → ((b ≡ 97) ⊎ (b ≡ 40)) × ((l : List Frame) × (step k 121 ≡ go l))
-deep_opens k b e = by (first k b)
-  where
-    by : Top k b → ((b ≡ 97) ⊎ (b ≡ 40)) × ((l : List Frame) × (step k 121 ≡ go l))
-    by (opening s a l h g) = (stops s a b l TooDeep (sym h ∙ e), (l, g))
-    by (goes l h) = cc
-    by (closes h g) = cc
+deep_opens k b e = elim (first k b) [ opening s a l h g ↦ (stops s a b l TooDeep (sym h ∙ e), (l, g)) | goes l h ↦ cc | closes h g ↦ cc ]
 
 unexpected_all : (k : List Frame) (b : ℕ) → step k b ≡ stop Unexpected → (b ≡ 97) ⊎ (b ≡ 40) → (x : ℕ) → (x ≡ 125 → ⊥) → step k x ≡ stop Unexpected
-unexpected_all k b e o x n = by (first k b)
-  where
-    by : Top k b → step k x ≡ stop Unexpected
-    by (opening s a l h g) = absurd (stops s a b l Unexpected (sym h ∙ e) o)
-    by (goes l h) = cc
-    by (closes h g) = g x n
+unexpected_all k b e o x n = elim (first k b) [ opening s a l h g ↦ absurd (stops s a b l Unexpected (sym h ∙ e) o) | goes l h ↦ cc | closes h g ↦ g x n ]
 
 -- a text that goes on from where a run broke off, by a byte at which it stops, is not valid
 dead : (before y : Text) (k : List Frame) (b : ℕ) (c : Cause) → ((x : Text) → run (top) (before ++ x) ≡ run k x) → step k b ≡ stop c → Valid (before ++ (b ∷ y)) → ⊥
@@ -197,21 +181,15 @@ is_fault w c n within e =
 
 -- a text has one fault at most
 one_place : (w : Text) (j k : ℕ) → Place w j → Place w k → j ≡ k
-one_place w j k p q = elim (cases_lt j k) [
-  | inl h ↦ absurd (p.longest k h q.within q.start)
-  | inr h ↦ elim (cases_lt k j) [ inl g ↦ absurd (q.longest j g p.within p.start) | inr g ↦ omega arith ]
-]
+one_place w j k p q = grind (arith, p.longest k, q.longest j, p.start, q.start)
 
 one_cause : (w : Text) (k : ℕ) (c d : Cause) → Because w k c → Because w k d → c ≡ d
 one_cause w k Ended Ended p q = refl
-one_cause w k Ended TooDeep p q = absurd (omega arith)
-one_cause w k Ended Unexpected p q = absurd (omega arith)
-one_cause w k TooDeep Ended p q = absurd (omega arith)
 one_cause w k TooDeep TooDeep p q = refl
-one_cause w k TooDeep Unexpected p q = absurd (q.1 p.1)
-one_cause w k Unexpected Ended p q = absurd (omega arith)
-one_cause w k Unexpected TooDeep p q = absurd (p.1 q.1)
 one_cause w k Unexpected Unexpected p q = refl
+one_cause w k TooDeep Unexpected p q = absurd (q.1 p.1)
+one_cause w k Unexpected TooDeep p q = absurd (p.1 q.1)
+one_cause w k c d p q = absurd (omega arith)
 
 pub same_fault : (w : Text) (f g : Fault) → FaultOf w f → FaultOf w g → f ≡ g
 same_fault w f g p q =

@@ -14,15 +14,14 @@ raise (close ∷ k) = close ∷ raise k
 raise (types s a ∷ k) = types (s + 1) (a + 1) ∷ raise k
 
 raise_begin : (s a b : ℕ) (k l : List Frame) → begin s a b k ≡ go l → begin (s + 1) (a + 1) b (raise k) ≡ go (raise l)
-raise_begin s a b k l e = by (begins s a b k)
-  where
-    by : Begins s a b k → begin (s + 1) (a + 1) b (raise k) ≡ go (raise l)
-    by (is_code h g) = cc (begin_basic (s + 1) (a + 1) b (raise k) h)
-    by (is_maybe q g) = cc (begin_maybe (s + 1) (a + 1) (raise k))
-    by (is_array q h g) = let same : a + 1 - 1 ≡ a - 1 + 1 = omega arith in cc (begin_array (s + 1) (a + 1) (raise k) (omega arith))
-    by (is_structure q h g) = let same : s + 1 - 1 ≡ s - 1 + 1 = omega arith in cc (begin_structure (s + 1) (a + 1) (raise k) (omega arith))
-    by (is_deep q g) = cc
-    by (is_other p q g) = cc
+raise_begin s a b k l e = elim (begins s a b k) [
+  | is_code h g ↦ cc (begin_basic (s + 1) (a + 1) b (raise k) h)
+  | is_maybe q g ↦ cc (begin_maybe (s + 1) (a + 1) (raise k))
+  | is_array q h g ↦ let same : a + 1 - 1 ≡ a - 1 + 1 = omega arith in cc (begin_array (s + 1) (a + 1) (raise k) (omega arith))
+  | is_structure q h g ↦ let same : s + 1 - 1 ≡ s - 1 + 1 = omega arith in cc (begin_structure (s + 1) (a + 1) (raise k) (omega arith))
+  | is_deep q g ↦ cc
+  | is_other p q g ↦ cc
+]
 
 pub raise_step : (k : List Frame) (b : ℕ) (l : List Frame) → step k b ≡ go l → step (raise k) b ≡ go (raise l)
 unfolding step
