@@ -1,12 +1,10 @@
 -- A call of the book over numbers answers as the plain book does.
-use Rattle.std.proofs.Common.{◌≡◌, ℕ, ◌+◌, ◌-◌, ◌≤◌, Bool, true, false, cond, eqb, ltb, ◌⊎◌, List, [], ◌∷◌, ◌++◌, map, length, sym, refl, ap, ◌∙◌, subst, ap₂, inl, inr, true≢false, append_assoc, append-nil, arith}
-use mathlib.Core.List.{map-append}
+use Rattle.std.proofs.Common.{◌≡◌, ℕ, ◌+◌, ◌-◌, ◌≤◌, eqb, ltb, ◌⊎◌, List, [], ◌∷◌, ◌++◌, map, length, sym, refl, ap, ◌∙◌, subst, ap₂, inl, inr, append-nil, arith}
 use mathlib.Core.Option.{Option, none, some}
 use lib.ListN.{length-map}
 use Rattle.std.proofs.lemmas.List.{map_push}
 use Rattle.std.proofs.lemmas.Bool.Decides.{nat_tests}
-use Rattle.std.proofs.lemmas.Bool.{ltb-false, eqb-false}
-use Rattle.grammar.specs.Lists.{In, place, add, add_all}
+use Rattle.grammar.specs.Lists.{In, place, add}
 use Rattle.grammar.specs.Shape.{Text, Shape, Shapes, nil, more, printed, printed_all}
 use Rattle.grammar.specs.declared.figures.Figures.{Figures}
 use Rattle.grammar.specs.declared.error.Fault.{Fault}
@@ -21,7 +19,6 @@ use Rattle.book.specs.Nodes.{Node, array, maybe, dict, structure, same_node, ent
 use Rattle.book.specs.Nodes
 use Rattle.grammar.proofs.Prefix.{bare}
 use Rattle.grammar.proofs.ReadBack.{reading_printed, read_all_printed, reading_empty}
-use Rattle.std.specs.List.{AllByRecursion}
 use Rattle.book.proofs.Lists.{in_get_d, add_all_old, add_all_append, map_in}
 use Rattle.book.proofs.NodeShapes.{same_texts, basics_long}
 use Rattle.book.proofs.Figured.{node_figures_are}
@@ -75,8 +72,13 @@ pub record Same (ns : List Node) (ss : List Shape) (r : ℕ × List Node) (size 
 grown_node : (ns : List Node) (ss : List Shape) → Sound ns ss → (x : Node) → Known (length ss) x
     → grown (map printed ss) (printed (node_shape ss x)) ≡ add same_text (map printed ss) (printed (node_shape ss x))
 grown_node ns ss g x k =
-    rw (reading_printed (node_shape ss x), inner_is ss x k, map_push printed (inner (node_shape ss x)) (node_shape ss x), add_all_append same_texts (map printed ss) (map printed (inner (node_shape ss x))) (printed (node_shape ss x) ∷ []),
-        add_all_old same_texts (map printed ss) (map printed (inner (node_shape ss x))) (λ w i. let p = map_in printed w (inner (node_shape ss x)) i in rw (← p.2) (in_map printed p.0 ss (inner_in ss g.closed x k p.0 p.1))))
+    rw (
+      reading_printed (node_shape ss x),
+      inner_is ss x k,
+      map_push printed (inner (node_shape ss x)) (node_shape ss x),
+      add_all_append same_texts (map printed ss) (map printed (inner (node_shape ss x))) (printed (node_shape ss x) ∷ []),
+      add_all_old same_texts (map printed ss) (map printed (inner (node_shape ss x))) (λ w i. let p = map_in printed w (inner (node_shape ss x)) i in rw (← p.2) (in_map printed p.0 ss (inner_in ss g.closed x k p.0 p.1))),
+    )
 
 written_at : (ss : List Shape) (n : ℕ) (s : Shape) → Part (length ss) n → shape_at ss n ≡ s → In (printed s) (known (map printed ss))
 written_at ss n s p e = subst (λ (z : List Text). In (printed s) z) (sym (known_is ss)) (inr (in_map printed s (basics ++ ss) (rw e at (in_get_d (basics ++ ss) (n - 1) byte (omega (arith, basics_long ss))))))

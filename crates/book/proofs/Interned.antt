@@ -1,5 +1,5 @@
 -- What entering a container, or all of a tree, comes to.
-use Rattle.std.proofs.Common.{◌≡◌, ℕ, zero, suc, ◌+◌, ◌-◌, ◌<◌, true, false, eqb, ◌⊎◌, List, [], ◌∷◌, ◌++◌, map, length, get_or, sym, refl, ap, ◌∙◌, subst, ap₂, inl, inr, true≢false, append_assoc, append-nil, arith, length-append}
+use Rattle.std.proofs.Common.{◌≡◌, ℕ, zero, suc, ◌+◌, ◌-◌, ◌<◌, true, false, eqb, ◌⊎◌, List, [], ◌∷◌, ◌++◌, map, length, get_or, sym, refl, ap, ◌∙◌, subst, ap₂, inl, inr, append_assoc, append-nil, arith, length-append}
 use mathlib.Core.List.{map-append}
 use lib.ListN.{length-map}
 use Rattle.std.proofs.lemmas.List.{get_or_append_left, map_push, length_push, get_or-map, get_or_push}
@@ -10,7 +10,7 @@ use Rattle.grammar.specs.Parts.{containers, containers_all}
 use Rattle.book.specs.Plain.{same_text, single, known, number_of, text_of}
 use Rattle.book.specs.Nodes.{Node, array, maybe, dict, structure, same_node, enter, intern, intern_all, basics, byte, shape_at, shapes_at, node_shape, Part, Parts, Known}
 use Rattle.grammar.proofs.ReadBack.{printed_inj, head}
-use Rattle.book.proofs.Lists.{numbers, in_get_d, has_in, in_has, not_in, add_old, add_new, add_all_append, place_in, place_out, has2, place2, distinct_at}
+use Rattle.book.proofs.Lists.{numbers, in_get_d, has_in, not_in, add_old, add_new, add_all_append, place_in, place_out, place2, distinct_at}
 use Rattle.book.proofs.NodeShapes.{same_texts, same_nodes, Row, keep_node, basics_long, basics_count, at_more, at_shape}
 use Rattle.book.proofs.Sound.{Sound, as_many, row, has_same, in_text, pushed, in_map}
 

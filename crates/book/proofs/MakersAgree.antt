@@ -1,13 +1,11 @@
 -- The makers, test by test, make the calls of the book over numbers.
-use Rattle.std.proofs.Common.{◌≡◌, ℕ, ◌+◌, ◌<◌, ◌≤◌, Bool, true, false, cond, ◌||◌, eqb, ltb, ◌⊎◌, List, [], ◌∷◌, ◌++◌, length, sym, refl, ap, ◌∙◌, subst, inl, inr, arith}
+use Rattle.std.proofs.Common.{◌≡◌, ℕ, ◌+◌, ◌≤◌, cond, eqb, ltb, List, [], ◌∷◌, ◌++◌, length, sym, refl, ap, ◌∙◌, inl, inr, arith}
 use mathlib.Core.Option.{none, some}
-use native.Mathlib.Decide.{dec_lt}
 use Rattle.std.proofs.lemmas.List.{length_push}
 use Rattle.std.proofs.lemmas.Bool.Decides.{nat_tests}
-use Rattle.std.proofs.lemmas.Bool.{cases_Bool, ltb-false, lt-ltb, le-ltb, or_right, ne_eqb}
-use Rattle.grammar.specs.Lists.{In, same_list, has, place, add, add_all, tails}
+use Rattle.std.proofs.lemmas.Bool.{cases_Bool}
+use Rattle.grammar.specs.Lists.{In, same_list, has, add, add_all, tails}
 use Rattle.book.specs.Plain.{Call, Answer, Limits, Refusing, longest_form, early, late, ◌else◌, first_at, when, empty_list}
-use Rattle.grammar.specs.Refusals.{accepted, refused}
 use Rattle.book.specs.Plain
 use Rattle.book.specs.Agree.{Room}
 use Rattle.book.specs.Nodes.{Node, array, maybe, dict, structure, same_node, enter, size_of, fields_of, tails_from, tails_of, answered, call}

@@ -1,13 +1,12 @@
 -- The questions, answered from the texts and from the nodes, have the same answers.
-use Rattle.std.proofs.Common.{inl, inr, ◌≡◌, ℕ, zero, suc, ◌+◌, ◌-◌, ◌<◌, ◌≤◌, Bool, true, false, cond, eqb, ltb, List, [], ◌∷◌, map, length, get_or, Some, codes, sym, refl, ap, ◌∙◌, arith}
+use Rattle.std.proofs.Common.{inl, inr, ◌≡◌, ℕ, zero, suc, ◌+◌, ◌-◌, ◌<◌, ◌≤◌, true, cond, eqb, ltb, List, [], ◌∷◌, map, length, get_or, Some, sym, refl, ap, ◌∙◌, arith}
 use mathlib.Core.Option.{Option, none, some}
 use native.Mathlib.Decide.{dec_lt}
 use lib.ListN.{length-map}
-use Rattle.std.proofs.lemmas.List.{get_or_append_left, get_or-map, get_or_default}
+use Rattle.std.proofs.lemmas.List.{get_or_append_left, get_or-map}
 use Rattle.std.proofs.lemmas.Bool.Decides.{nat_tests}
 use Rattle.std.proofs.lemmas.Bool.{lt-ltb, le-ltb, ne_eqb, cases_lt}
 use Rattle.grammar.specs.declared.figures.Figures.{Figures}
-use Rattle.grammar.specs.Lists.{has}
 use Rattle.grammar.specs.Shape.{Text, is_basic, Shape, basic, printed}
 use Rattle.grammar.specs.Parts.{fields}
 use Rattle.grammar.specs.Figures.{gvariant_of_code, gvariant_alignment, text_figures}
@@ -19,7 +18,7 @@ use Rattle.book.specs.Nodes.{Node, array, maybe, dict, structure, figures_from, 
 use Rattle.book.specs.Agree.{Good}
 use Rattle.book.specs.Questions.{if_known, child_by, key_by, value_by, fields_by, number_at, child_of, key_of, value_of, len_of, get_of, figure_of, Format, alignment_in, alignment, alignment_of, equal_of, node_answer, node_child, node_dict_key, node_dict_value, node_fields, item_at, node_len, node_get, figure_answer, alignment_answer, equal_answer}
 use Rattle.std.proofs.lemmas.Slice.Zip.{AllZip-long}
-use Rattle.std.specs.List.{AllByRecursion, AllZip}
+use Rattle.std.specs.List.{AllZip}
 use Rattle.book.proofs.Lists.{all_in, in_get_d, get_or2}
 use Rattle.book.proofs.NodeShapes.{Num, Row, keep_num, basics_count, at_shape}
 use Rattle.book.proofs.Figured.{shape_figures}

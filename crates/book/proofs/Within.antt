@@ -1,5 +1,5 @@
 -- The containers listed of a type are those that stand in it.
-use Rattle.std.proofs.Common.{◌⊎◌, List, [], ◌∷◌, ◌++◌, refl, subst, inl, inr, append_assoc}
+use Rattle.std.proofs.Common.{List, [], ◌∷◌, ◌++◌, refl, subst, inl, inr, append_assoc}
 use Rattle.grammar.specs.Lists.{In}
 use Rattle.grammar.specs.Shape.{Shape, Shapes, basic, array, maybe, dict, structure, nil, more}
 use Rattle.grammar.specs.Parts.{containers, containers_all, Container, Within, itself, element, content, key, value, field, WithinAny, first, later}

@@ -54,6 +54,7 @@ closing_none t w = let h = head t in rw (h.text, ne_eqb h.byte 41 h.no_bracket)
 
 mutual
   unfolding read_type read_rest
+
   pub reads : (t : Shape) (n : ℕ) (w : Text) → length (printed t) ≤ n → read_type n (printed t ++ w) ≡ some (t, w)
   reads t zero w l = absurd (omega (arith, long t))
   reads (basic c h) (suc n) w l = rw (front_code c h w, read_type)

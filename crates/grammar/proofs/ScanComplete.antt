@@ -22,6 +22,7 @@ at_types t s a k w = rw (head t).text
 
 mutual
   unfolding run step begin is_basic
+
   pub complete : (t : Shape) (s a : ℕ) (k : List Frame) (w : Text) → structure_depth t ≤ s → array_depth t ≤ a → run (one s a ∷ k) (printed t ++ w) ≡ run k w
   complete (basic c h) s a k w p q = rw (h, run)
   complete (array t) s a k w p q = rw (lt-ltb 0 a (omega arith), run) (at_element t s (a - 1) k w ∙ complete t s (a - 1) k w p (omega arith))

@@ -1,7 +1,7 @@
 -- The verdict of a run is what the grammar says of the text.
 use Rattle.std.proofs.Common.{◌≡◌, ℕ, suc, ◌+◌, ◌-◌, ◌<◌, ◌≤◌, ◌⊎◌, List, [], ◌∷◌, ◌++◌, length, get_or, take, drop, sym, refl, ap, ◌∙◌, subst, ap₂, inl, inr, append_assoc, append-nil, arith, length-append, length-drop, drop-cons, take_at, take-add, drop_at}
 use mathlib.Core.Option.{Option, none, some}
-use Rattle.std.proofs.lemmas.Bool.{cases_eq, cases_lt}
+use Rattle.std.proofs.lemmas.Bool.{cases_eq}
 use Rattle.grammar.specs.declared.error.Cause.{Cause}
 use Rattle.grammar.specs.declared.error.Cause.TheVariants.{Ended, TooDeep, Unexpected}
 use Rattle.grammar.specs.Shape.{Text, is_basic, Shape, basic}
@@ -9,7 +9,7 @@ use Rattle.grammar.specs.declared.error.Fault.{Fault}
 use Rattle.grammar.specs.Valid.{Valid, Start, Place, Because, FaultOf, StartAtAnyDepth}
 use Rattle.grammar.specs.Scan.{Frame, one, others, element, close, types, Step, go, stop, Verdict, good, bad, begin, step, final, run, top, fault_by, fault}
 use Rattle.grammar.specs.Laws.{OneFault, ScanIsExact, ExactlyOneFault}
-use Rattle.grammar.proofs.ScanSteps.{run_next, run_stop, step_others, step_element, step_close_not, Begins, begins, is_code, is_maybe, is_array, is_structure, is_deep, is_other}
+use Rattle.grammar.proofs.ScanSteps.{run_next, run_stop, step_others, step_element, step_close_not, begins, is_code, is_maybe, is_array, is_structure, is_deep, is_other}
 use Rattle.grammar.proofs.ScanComplete.{complete_top}
 use Rattle.grammar.proofs.ReadBack.{head}
 use Rattle.grammar.proofs.ScanSound.{sound}

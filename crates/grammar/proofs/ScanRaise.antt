@@ -3,7 +3,7 @@ use Rattle.std.proofs.Common.{◌≡◌, ℕ, ◌+◌, ◌-◌, ◌⊎◌, List,
 use Rattle.std.proofs.lemmas.Bool.{cases_eq}
 use Rattle.grammar.specs.declared.error.Cause.TheVariants.{TooDeep}
 use Rattle.grammar.specs.Scan.{Frame, one, others, element, close, types, go, stop, begin, step}
-use Rattle.grammar.proofs.ScanSteps.{begin_basic, begin_maybe, begin_array, begin_structure, step_others, step_element, step_close_not, Begins, begins, is_code, is_maybe, is_array, is_structure, is_deep, is_other}
+use Rattle.grammar.proofs.ScanSteps.{begin_basic, begin_maybe, begin_array, begin_structure, step_others, step_element, step_close_not, begins, is_code, is_maybe, is_array, is_structure, is_deep, is_other}
 
 abbrev pub raise : List Frame → List Frame
 raise [] = []
