@@ -14,7 +14,7 @@ use Rattle.book.specs.History.{Result, ContainerText, Tail, AfterAnyCalls, OneMo
 use Rattle.book.proofs.Lists.{Decides, same_lists, place_in, in_add_all, add_all_in, add_all_old, distinct_add_all, tail_in, in_tail, map_in}
 use Rattle.book.proofs.NodeShapes.{same_texts}
 use Rattle.book.proofs.Sound.{start, in_map}
-use Rattle.book.proofs.Interned.{known_is, empty_not}
+use Rattle.book.proofs.Interned.{distinct_texts, known_apart}
 use Rattle.book.proofs.Within.{within, met}
 use Rattle.book.proofs.Calls.{else_none, late_none, Left, Taken}
 use Rattle.book.proofs.Backed.{Backed, known_shape, known_keeps, done, backed, longer_call, longer_run, stays, numbered}
@@ -102,19 +102,11 @@ pub distinct_right : {A : Type 0} (xs ys : List A) → Distinct (xs ++ ys) → D
 distinct_right [] ys d = d
 distinct_right (x ∷ xs) ys d = distinct_right xs ys d.1
 
-distinct_texts : (ss : List Shape) → Distinct ss → Distinct (map printed ss)
-distinct_texts [] d = tt
-distinct_texts (s ∷ ss) d =
-    (λ i. let p = map_in printed (printed s) ss i in d.0 (subst (λ (z : Shape). In z ss) (printed_inj p.0 s p.2) p.1), distinct_texts ss d.1)
-
 backed_distinct : (b : List Text) → Backed b → Distinct b
 backed_distinct b k = subst Distinct k.texts (distinct_texts k.ss (distinct_right basics k.ss k.sound.apart))
 
 pub known_distinct : (b : List Text) → Backed b → Distinct (known b)
-known_distinct b k = subst Distinct (sym (known_is k.ss) ∙ ap known k.texts) (λ i. nothing_empty (basics ++ k.ss) i, distinct_texts (basics ++ k.ss) k.sound.apart)
-  where
-    nothing_empty : (ss : List Shape) → In [] (map printed ss) → ⊥
-    nothing_empty ss i = let p = map_in printed [] ss i in true≢false (ap (λ (w : Text). same_text w []) (sym p.2) ∙ empty_not p.0)
+known_distinct b k = subst (λ (z : List Text). Distinct (known z)) k.texts (known_apart k.ss k.sound.apart)
 
 -- the tails
 same_tails : Decides (same_list same_text)

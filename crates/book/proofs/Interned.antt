@@ -10,7 +10,7 @@ use Rattle.grammar.specs.Parts.{containers, containers_all}
 use Rattle.book.specs.Plain.{same_text, single, known, number_of, text_of}
 use Rattle.book.specs.Nodes.{Node, array, maybe, dict, structure, same_node, enter, intern, intern_all, basics, byte, shape_at, shapes_at, node_shape, Part, Parts, Known}
 use Rattle.grammar.proofs.ReadBack.{printed_inj, head}
-use Rattle.book.proofs.Lists.{numbers, in_get_d, has_in, not_in, add_old, add_new, add_all_append, place_in, place_out, place2, distinct_at}
+use Rattle.book.proofs.Lists.{numbers, in_get_d, has_in, not_in, add_old, add_new, add_all_append, place_in, place_out, place2, place_in, place_out, place_at, map_in, has2, place2, distinct_at}
 use Rattle.book.proofs.NodeShapes.{same_texts, same_nodes, Row, keep_node, basics_long, basics_count, at_more, at_shape}
 use Rattle.book.proofs.Sound.{Sound, as_many, row, has_same, in_text, pushed, in_map}
 
@@ -187,13 +187,15 @@ not_empty s = let h = head s in rw h.text
 pub empty_not : (s : Shape) → same_text (printed s) [] ≡ false
 empty_not s = let h = head s in rw h.text
 
+-- no two numbers have the same text
+pub distinct_texts : (ss : List Shape) → Distinct ss → Distinct (map printed ss)
+distinct_texts [] d = tt
+distinct_texts (s ∷ ss) d = (λ i. let p = map_in printed (printed s) ss i in d.0 (rw (printed_inj p.0 s p.2) at p.1), distinct_texts ss d.1)
+
+pub known_apart : (ss : List Shape) → Distinct (basics ++ ss) → Distinct (known (map printed ss))
+known_apart ss d = subst Distinct (sym (known_is ss)) (λ i. let p = map_in printed [] (basics ++ ss) i in cc (p.2, empty_not p.0, same_texts.self []), distinct_texts (basics ++ ss) d)
+
 pub number_is : (ss : List Shape) → Distinct (basics ++ ss) → (n : ℕ) (s : Shape) → Part (length ss) n → shape_at ss n ≡ s → number_of (map printed ss) (printed s) ≡ n
 number_is ss d n s p e =
-    let l = basics_long ss in
-    let i : In s (basics ++ ss) = subst (λ (z : Shape). In z (basics ++ ss)) e (in_get_d (basics ++ ss) (n - 1) byte (omega arith)) in
-    let q = place_in same_texts (map printed (basics ++ ss)) (printed s) [] (in_map printed s (basics ++ ss) i) in
-    let k : ℕ = place same_text (map printed (basics ++ ss)) (printed s) in
-    let b : k < length (basics ++ ss) = omega (arith, q.0, length-map (basics ++ ss) printed) in
-    let same : get_or (basics ++ ss) k byte ≡ get_or (basics ++ ss) (n - 1) byte = printed_inj _ _ (sym (get_or-map printed (basics ++ ss) k byte [] b) ∙ q.1 ∙ ap printed (sym e)) in
-    let z : k ≡ n - 1 = distinct_at (basics ++ ss) k (n - 1) byte d b (omega arith) same in
-    ap (λ (z : List Text). place same_text z (printed s)) (known_is ss) ∙ rw (not_empty s) (omega arith)
+    let l = length-map ss printed in
+    ap (number_of (map printed ss)) (sym (text_is ss n p ∙ ap printed e)) ∙ place_at same_texts (known (map printed ss)) n [] (known_apart ss d) (omega arith)
