@@ -10,7 +10,7 @@ use Rattle.grammar.specs.Parts.{containers, containers_all}
 use Rattle.book.specs.Plain.{same_text, single, known, number_of, text_of}
 use Rattle.book.specs.Nodes.{Node, array, maybe, dict, structure, same_node, enter, intern, intern_all, basics, byte, shape_at, shapes_at, node_shape, Part, Parts, Known}
 use Rattle.grammar.proofs.ReadBack.{printed_inj, head}
-use Rattle.book.proofs.Lists.{numbers, in_get_d, has_in, not_in, add_old, add_new, add_all_append, place_in, place_out, place2, place_in, place_out, place_at, map_in, has2, place2, distinct_at}
+use Rattle.book.proofs.Lists.{numbers, in_get_d, has_in, not_in, add_old, add_new, add_all_append, place_in, place_out, place_at, map_in, place2}
 use Rattle.book.proofs.NodeShapes.{same_texts, same_nodes, Row, keep_node, basics_long, basics_count, at_more, at_shape}
 use Rattle.book.proofs.Sound.{Sound, as_many, row, has_same, in_text, pushed, in_map}
 
@@ -181,10 +181,7 @@ text_is ss n p = ap (λ (z : List Text). get_or z n []) (known_is ss) ∙ by n p
     by zero p = absurd (omega arith)
     by (suc n) p = get_or-map printed (basics ++ ss) n byte [] (omega (arith, basics_long ss)) ∙ ap (λ (k : ℕ). printed (get_or (basics ++ ss) k byte)) (omega arith)
 
-pub not_empty : (s : Shape) → same_text [] (printed s) ≡ false
-not_empty s = let h = head s in rw h.text
-
-pub empty_not : (s : Shape) → same_text (printed s) [] ≡ false
+empty_not : (s : Shape) → same_text (printed s) [] ≡ false
 empty_not s = let h = head s in rw h.text
 
 -- no two numbers have the same text

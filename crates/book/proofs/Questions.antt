@@ -5,7 +5,7 @@ use native.Mathlib.Decide.{dec_lt}
 use lib.ListN.{length-map}
 use Rattle.std.proofs.lemmas.List.{get_or_append_left, get_or-map}
 use Rattle.std.proofs.lemmas.Bool.Decides.{nat_tests}
-use Rattle.std.proofs.lemmas.Bool.{lt-ltb, le-ltb, ne_eqb, cases_lt}
+use Rattle.std.proofs.lemmas.Bool.{eq-eqb, eqb-true, lt-ltb, le-ltb, ne_eqb, cases_lt}
 use Rattle.grammar.specs.declared.figures.Figures.{Figures}
 use Rattle.grammar.specs.Shape.{Text, is_basic, Shape, basic, printed}
 use Rattle.grammar.specs.Parts.{fields}
@@ -13,17 +13,17 @@ use Rattle.grammar.specs.Figures.{gvariant_of_code, gvariant_alignment, text_fig
 use Rattle.grammar.specs.Read.{reading}
 use Rattle.grammar.specs.Refusals.{Outcome, accepted, refused}
 use Rattle.grammar.proofs.ReadBack.{reading_printed, reading_empty}
-use Rattle.book.specs.Plain.{same_text, text_of, number_of}
+use Rattle.book.specs.Plain.{known, same_text, text_of, number_of}
 use Rattle.book.specs.Nodes.{Node, array, maybe, dict, structure, figures_from, figures_at, basics, byte, shapes_from, shape_at, node_shape, Part, Known, texts_of}
 use Rattle.book.specs.Agree.{Good}
 use Rattle.book.specs.Questions.{if_known, child_by, key_by, value_by, fields_by, number_at, child_of, key_of, value_of, len_of, get_of, figure_of, Format, alignment_in, alignment, alignment_of, equal_of, node_answer, node_child, node_dict_key, node_dict_value, node_fields, item_at, node_len, node_get, figure_answer, alignment_answer, equal_answer}
 use Rattle.std.proofs.lemmas.Slice.Zip.{AllZip-long}
 use Rattle.std.specs.List.{AllZip}
-use Rattle.book.proofs.Lists.{all_in, in_get_d, get_or2}
-use Rattle.book.proofs.NodeShapes.{Num, Row, keep_num, basics_count, at_shape}
+use Rattle.book.proofs.Lists.{distinct_at, all_in, in_get_d, get_or2}
+use Rattle.book.proofs.NodeShapes.{bool_same, same_texts, Num, Row, keep_num, basics_count, at_shape}
 use Rattle.book.proofs.Figured.{shape_figures}
 use Rattle.book.proofs.Sound.{Sound, as_many, Code, basics_codes}
-use Rattle.book.proofs.Interned.{text_is, not_empty, empty_not}
+use Rattle.book.proofs.Interned.{text_is, known_apart}
 use Rattle.book.proofs.Tails.{node_fields_are}
 use Rattle.book.proofs.TextFigures.{text_figures_are}
 use Rattle.book.proofs.Rows.{number_at_is}
@@ -132,14 +132,11 @@ module _ (ns : List Node) (g : Good ns) where
       (λ l. ap (λ (x : Figures). alignment (alignment_in format x)) (text_figures_are ns g n l))
 
   same_number : (m n : ℕ) → m < 15 + length ns → n < 15 + length ns → same_text (text_of (texts_of ns) m) (text_of (texts_of ns) n) ≡ eqb m n
-  same_number zero zero p q = refl
-  same_number zero (suc n) p q = let e = as_many ns (shapes_from [] ns) (good_sound ns g) in
-      rw (ne_eqb 0 (suc n) (omega arith)) (ap (same_text []) (text_is (shapes_from [] ns) (suc n) (omega arith)) ∙ not_empty (shape_at (shapes_from [] ns) (suc n)))
-  same_number (suc m) zero p q = let e = as_many ns (shapes_from [] ns) (good_sound ns g) in
-      rw (ne_eqb (suc m) 0 (omega arith)) (ap (λ (w : Text). same_text w []) (text_is (shapes_from [] ns) (suc m) (omega arith)) ∙ empty_not (shape_at (shapes_from [] ns) (suc m)))
-  same_number (suc m) (suc n) p q = let e = as_many ns (shapes_from [] ns) (good_sound ns g) in
-      sym (keep_num (shapes_from [] ns) (good_sound ns g).apart (suc m) (suc n) (text_of (texts_of ns) (suc m)) (text_of (texts_of ns) (suc n))
-      (omega arith, text_is (shapes_from [] ns) (suc m) (omega arith)) (omega arith, text_is (shapes_from [] ns) (suc n) (omega arith)))
+  same_number m n p q =
+      let l = texts_count ns g in
+      bool_same (same_text (text_of (texts_of ns) m) (text_of (texts_of ns) n)) (eqb m n)
+      (λ h. eq-eqb m n (distinct_at (known (texts_of ns)) m n [] (known_apart (shapes_from [] ns) (good_sound ns g).apart) (omega arith) (omega arith) (same_texts.so _ _ h)))
+      (λ h. rw (eqb-true m n h) (same_texts.self (text_of (texts_of ns) n)))
 
   pub equal_agrees : (m n : ℕ) → equal_of (texts_of ns) m n ≡ equal_answer ns m n
   unfolding equal_of
