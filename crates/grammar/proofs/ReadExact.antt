@@ -1,5 +1,5 @@
 -- What is read is what was printed.
-use Rattle.std.proofs.Common.{◌≡◌, ℕ, zero, suc, ◌+◌, Bool, true, false, cond, eqb, [], ◌∷◌, ◌++◌, length, inl, inr, refl, ap, ◌∙◌, subst, append_assoc, append-nil}
+use Rattle.std.proofs.Common.{◌≡◌, ℕ, zero, suc, ◌+◌, Bool, true, false, cond, eqb, [], ◌∷◌, ◌++◌, length, inl, inr, refl, ap, ◌∙◌, subst, append_assoc, append-nil, arith}
 use mathlib.Core.Bool.{Bool-discrete}
 use mathlib.Core.Option.{Option, none, some}
 use Rattle.std.proofs.lemmas.Bool.{eqb-true, cases_Bool}
@@ -17,31 +17,20 @@ Says w (maybes v) = w ≡ 109 ∷ v
 Says w nothing = Unit {0}
 
 says_a : (b : ℕ) (w : Text) → b ≡ 97 → Says (b ∷ w) (behind_a w)
-says_a b [] e = cc
-says_a b (c ∷ w) e = go (eqb c 123) refl
-  where
-    go : (t : Bool) → eqb c 123 ≡ t → Says (b ∷ c ∷ w) (cond t (dicts w) (arrays (c ∷ w)))
-    go true h = cc (eqb-true c 123 h)
-    go false h = cc
+says_a b w e = grind arith
 
 says : (w : Text) → Says w (front w)
 unfolding front
 says [] = tt
 says (b ∷ w) = go (Bool-discrete (is_basic b) true)
   where
-    by : (p q r : Bool) → eqb b 97 ≡ p → eqb b 40 ≡ q → eqb b 109 ≡ r → Says (b ∷ w) (cond p (behind_a w) (cond q (structures w) (cond r (maybes w) nothing)))
-    by true q r e f g = says_a b w (eqb-true b 97 e)
-    by false true r e f g = cc (eqb-true b 40 f)
-    by false false true e f g = cc (eqb-true b 109 g)
-    by false false false e f g = tt
-
     go : (d : Dec (is_basic b ≡ true)) → Says (b ∷ w) (front_by b w d)
     go (yes h) = refl
-    go (no n) = by (eqb b 97) (eqb b 40) (eqb b 109) refl refl refl
+    go (no n) = grind (arith, says_a b w)
 
 says_closing : (w v : Text) → closing w ≡ some v → w ≡ 41 ∷ v
 says_closing [] v e = cc
-says_closing (b ∷ w) v e = elim (cases_Bool (eqb b 41)) [ inl h ↦ cc (eqb-true b 41 h) | inr h ↦ cc ]
+says_closing (b ∷ w) v e = grind arith
 
 -- what is said of the tree that was found, and of the text behind it
 of_found : {A : Type 0} (P : A → Text → Type 0) (x y : A) (u v : Text) → ◌≡◌ {A = Found A} (some (x, u)) (some (y, v)) → P x u → P y v
