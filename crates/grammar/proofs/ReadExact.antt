@@ -38,11 +38,7 @@ of_found {A} P x y u v e h = let z : ◌≡◌ {A = A × Text} (x, u) (y, v) = c
 
 says_closed : {A : Type 0} (x y : A) (w v : Text) → closed 125 x w ≡ some (y, v) → (x ≡ y) × (w ≡ 125 ∷ v)
 says_closed x y [] v e = cc
-says_closed {A} x y (b ∷ w) v e = go (eqb b 125) refl e
-  where
-    go : (t : Bool) → eqb b 125 ≡ t → cond {A = Found A} t (some (x, w)) none ≡ some (y, v) → (x ≡ y) × (b ∷ w ≡ 125 ∷ v)
-    go true h f = of_found (λ (z : A) (t : Text). (x ≡ z) × (b ∷ w ≡ 125 ∷ t)) x y w v f (refl, cc (eqb-true b 125 h))
-    go false h f = cc
+says_closed x y (b ∷ w) v e = grind arith
 
 -- what was found first
 then_some : {A B : Type 0} (o : Found A) (f : A → Text → Found B) (y : B × Text) → then o f ≡ some y → (x : A) × (u : Text) × (o ≡ some (x, u)) × (f x u ≡ some y)
