@@ -1,5 +1,5 @@
 -- What the plain book holds after any calls.
-use Rattle.std.proofs.Common.{◌≡◌, ℕ, ◌<◌, ◌≤◌, ◌⊎◌, List, [], ◌∷◌, ◌++◌, map, length, sym, refl, ap, ◌∙◌, subst, inl, inr, true≢false, arith, length-append}
+use Rattle.std.proofs.Common.{◌≡◌, ℕ, ◌<◌, ◌≤◌, ◌⊎◌, List, [], ◌∷◌, ◌++◌, map, length, sym, refl, ap, ◌∙◌, subst, inl, inr, arith, length-append}
 use mathlib.Core.Option.{none, some}
 use Rattle.std.proofs.lemmas.Bool.Decides.{nat_tests}
 use Rattle.grammar.specs.Lists.{In, Distinct, same_list, add_all, tails}
@@ -7,7 +7,7 @@ use Rattle.grammar.specs.Shape.{Text, basic_codes, Shape, basic, printed}
 use Rattle.grammar.specs.Parts.{containers, fields, Container, Within}
 use Rattle.grammar.specs.Read.{reading}
 use Rattle.grammar.specs.Refusals.{accepted}
-use Rattle.grammar.proofs.ReadBack.{reading_printed, reading_empty, printed_inj}
+use Rattle.grammar.proofs.ReadBack.{reading_printed, reading_empty}
 use Rattle.book.specs.Plain.{Call, Answer, Limits, Refusing, longest_form, same_text, single, known, text_of, number_of, whole_text, containers_of, fields_of, grown, tails_from, tails_of, ◌else◌, early, late, needed, answered, call, run}
 use Rattle.book.specs.Nodes.{basics}
 use Rattle.book.specs.History.{Result, ContainerText, Tail, AfterAnyCalls, OneMore, OneMoreCall}

@@ -10,9 +10,9 @@ use Rattle.grammar.specs.Parts.{containers, containers_all}
 use Rattle.book.specs.Plain.{same_text, single, known, number_of, text_of}
 use Rattle.book.specs.Nodes.{Node, array, maybe, dict, structure, same_node, enter, intern, intern_all, basics, byte, shape_at, shapes_at, node_shape, Part, Parts, Known}
 use Rattle.grammar.proofs.ReadBack.{printed_inj, head}
-use Rattle.book.proofs.Lists.{numbers, in_get_d, has_in, not_in, add_old, add_new, add_all_append, place_in, place_out, place_at, map_in, place2}
+use Rattle.book.proofs.Lists.{numbers, has_in, not_in, add_old, add_new, add_all_append, place_in, place_out, place_at, map_in, place2}
 use Rattle.book.proofs.NodeShapes.{same_texts, same_nodes, Row, keep_node, basics_long, basics_count, at_more, at_shape}
-use Rattle.book.proofs.Sound.{Sound, as_many, row, has_same, in_text, pushed, in_map}
+use Rattle.book.proofs.Sound.{Sound, as_many, row, has_same, in_text, pushed}
 
 pub record Made (ss : List Shape) (s : Shape) (after : List Text) (r : ℕ × List Node) : Type 0 where
   pub new : List Shape

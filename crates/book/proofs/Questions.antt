@@ -5,7 +5,7 @@ use native.Mathlib.Decide.{dec_lt}
 use lib.ListN.{length-map}
 use Rattle.std.proofs.lemmas.List.{get_or_append_left, get_or-map}
 use Rattle.std.proofs.lemmas.Bool.Decides.{nat_tests}
-use Rattle.std.proofs.lemmas.Bool.{eq-eqb, eqb-true, lt-ltb, le-ltb, ne_eqb, cases_lt}
+use Rattle.std.proofs.lemmas.Bool.{eq-eqb, eqb-true, lt-ltb, le-ltb, cases_lt}
 use Rattle.grammar.specs.declared.figures.Figures.{Figures}
 use Rattle.grammar.specs.Shape.{Text, is_basic, Shape, basic, printed}
 use Rattle.grammar.specs.Parts.{fields}
@@ -20,7 +20,7 @@ use Rattle.book.specs.Questions.{if_known, child_by, key_by, value_by, fields_by
 use Rattle.std.proofs.lemmas.Slice.Zip.{AllZip-long}
 use Rattle.std.specs.List.{AllZip}
 use Rattle.book.proofs.Lists.{distinct_at, all_in, in_get_d, get_or2}
-use Rattle.book.proofs.NodeShapes.{bool_same, same_texts, Num, Row, keep_num, basics_count, at_shape}
+use Rattle.book.proofs.NodeShapes.{bool_same, same_texts, Num, Row, basics_count, at_shape}
 use Rattle.book.proofs.Figured.{shape_figures}
 use Rattle.book.proofs.Sound.{Sound, as_many, Code, basics_codes}
 use Rattle.book.proofs.Interned.{text_is, known_apart}

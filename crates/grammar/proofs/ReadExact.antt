@@ -1,8 +1,7 @@
 -- What is read is what was printed.
-use Rattle.std.proofs.Common.{◌≡◌, ℕ, zero, suc, ◌+◌, Bool, true, false, cond, eqb, [], ◌∷◌, ◌++◌, length, inl, inr, refl, ap, ◌∙◌, subst, append_assoc, append-nil, arith}
+use Rattle.std.proofs.Common.{◌≡◌, ℕ, zero, suc, ◌+◌, true, [], ◌∷◌, ◌++◌, length, refl, ap, ◌∙◌, subst, append_assoc, append-nil, arith}
 use mathlib.Core.Bool.{Bool-discrete}
 use mathlib.Core.Option.{Option, none, some}
-use Rattle.std.proofs.lemmas.Bool.{eqb-true, cases_Bool}
 use Rattle.grammar.specs.Shape.{Text, is_basic, Shape, basic, array, maybe, dict, structure, Shapes, nil, more, printed, printed_all}
 use Rattle.grammar.specs.Laws.{ReadingIsExact}
 use Rattle.grammar.proofs.ReadBack.{reading_printed, read_all_printed}

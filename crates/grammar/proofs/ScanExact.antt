@@ -122,14 +122,11 @@ y = basic 121 refl
 module _ (w : Text) (n : ℕ) (within : n ≤ length w) (before : Text) (k : List Frame)
     (is-take : take n w ≡ before) (reach : (x : Text) → run (top) (before ++ x) ≡ run k x)
     (raised : (x : Text) → run (types 33 33 ∷ []) (before ++ x) ≡ run (raise k) x) where
-  here : n < length w → drop n w ≡ get_or w n 0 ∷ drop (suc n) w
-  here h = drop-cons w n 0 h
-
   short : (b : ℕ) (r : Text) → drop n w ≡ b ∷ r → n < length w
   short b r e = omega (arith, ap length e, length-drop n w)
 
   byte : (b : ℕ) (r : Text) → drop n w ≡ b ∷ r → get_or w n 0 ≡ b
-  byte b r e = cc (here (short b r e))
+  byte b r e = cc (drop-cons w n 0 (short b r e))
 
   starts : Start (take n w)
   starts = let x = finish k in
