@@ -14,13 +14,10 @@ distinct_mid [] x xs d i = i
 distinct_mid (y ∷ pre) x xs d i = grind (arith, distinct_mid pre x xs, in_right x pre (x ∷ xs))
 
 folded : (xs pre : List Node) (acc : List Shape) → Sound pre acc → Chain (length acc) xs → Distinct (pre ++ xs) → Sound (pre ++ xs) (shapes_from acc xs)
-folded [] pre acc g c d = subst (λ (z : List Node). Sound z acc) (sym (append-nil pre)) g
+folded [] pre acc g c d = rw append-nil g
 folded (x ∷ xs) pre acc g c d =
     let s : Shape = node_shape acc x in
-    subst (λ (z : List Node). Sound z (shapes_from (acc ++ s ∷ []) xs)) (append_assoc pre (x ∷ []) xs)
-    (folded xs (pre ++ x ∷ []) (acc ++ s ∷ []) (pushed pre acc g x c.0 (distinct_mid pre x xs d))
-    (subst (λ (m : ℕ). Chain m xs) (sym (length_push acc s)) c.1)
-    (subst Distinct (sym (append_assoc pre (x ∷ []) xs)) d))
+    rw (← append_assoc pre (x ∷ []) xs) (folded xs (pre ++ x ∷ []) (acc ++ s ∷ []) (pushed pre acc g x c.0 (distinct_mid pre x xs d)) (rw (length_push acc s) c.1) (rw append_assoc d))
 
 pub good_sound : (ns : List Node) → Good ns → Sound ns (shapes_from [] ns)
 good_sound ns g = folded ns [] [] start g.chain g.once
