@@ -11,7 +11,8 @@ use Rattle.grammar.proofs.ReadBack.{reading_printed, reading_empty}
 use Rattle.book.specs.Plain.{Call, Answer, Limits, Refusing, longest_form, same_text, single, known, text_of, number_of, whole_text, containers_of, fields_of, grown, tails_from, tails_of, ◌else◌, early, late, needed, answered, call, run}
 use Rattle.book.specs.Nodes.{basics}
 use Rattle.book.specs.History.{Result, ContainerText, Tail, AfterAnyCalls, OneMore, OneMoreCall}
-use Rattle.book.proofs.Lists.{Decides, same_lists, place_in, in_add_all, add_all_in, add_all_old, distinct_add_all, tail_in, in_tail, map_in}
+use Rattle.std.specs.List.{flat_map}
+use Rattle.book.proofs.Lists.{add_all_append, in_flat, flat_in, Decides, same_lists, place_in, in_add_all, add_all_in, add_all_old, distinct_add_all, tail_in, in_tail, map_in}
 use Rattle.book.proofs.NodeShapes.{same_texts}
 use Rattle.book.proofs.Sound.{start, in_map}
 use Rattle.book.proofs.Interned.{distinct_texts, known_apart}
@@ -112,40 +113,26 @@ known_distinct b k = subst (λ (z : List Text). Distinct (known z)) k.texts (kno
 same_tails : Decides (same_list same_text)
 same_tails = same_lists same_texts
 
-tails_distinct : (T : List (List Text)) (b : List Text) → Distinct T → Distinct (tails_from T b)
-tails_distinct T [] d = d
-tails_distinct T (w ∷ b) d = tails_distinct (add_all (same_list same_text) T (tails (fields_of (reading w)))) b (distinct_add_all same_tails T (tails (fields_of (reading w))) d)
+abbrev tails_at : Text → List (List Text)
+tails_at w = tails (fields_of (reading w))
 
-pub record TailAt (b : List Text) (t : List Text) : Type 0 where
-  pub of : Text
-  pub held : In of b
-  pub tail : In t (tails (fields_of (reading of)))
+-- all tails, one list of fields after another
+tails_are : (T : List (List Text)) (b : List Text) → tails_from T b ≡ add_all (same_list same_text) T (flat_map tails_at b)
+tails_are T [] = refl
+tails_are T (w ∷ b) = tails_are (add_all (same_list same_text) T (tails_at w)) b ∙ sym (add_all_append same_tails T (tails_at w) (flat_map tails_at b))
 
-tails_only : (T : List (List Text)) (b : List Text) (t : List Text) → In t (tails_from T b) → In t T ⊎ TailAt b t
-tails_only T [] t i = inl i
-tails_only T (w ∷ b) t i = elim (tails_only (add_all (same_list same_text) T (tails (fields_of (reading w)))) b t i) [
-  | inl j ↦ elim (in_add_all same_tails T (tails (fields_of (reading w))) t j) [ inl k ↦ inl k | inr k ↦ inr (record { of = w; held = inl refl; tail = k }) ]
-  | inr r ↦ inr (record { of = r.of; held = inr r.held; tail = r.tail })
-]
-
-tails_stay : (T : List (List Text)) (b : List Text) (t : List Text) → In t T → In t (tails_from T b)
-tails_stay T [] t i = i
-tails_stay T (w ∷ b) t i = tails_stay (add_all (same_list same_text) T (tails (fields_of (reading w)))) b t (add_all_in same_tails T (tails (fields_of (reading w))) t (inl i))
-
-tails_every : (T : List (List Text)) (b : List Text) (t v : List Text) (w : Text) → In w b → v ≡ fields_of (reading w) → In t (tails v) → In t (tails_from T b)
-tails_every T [] t v w i e j = absurd i
-tails_every T (u ∷ b) t v w (inl q) e j =
-    tails_stay (add_all (same_list same_text) T (tails (fields_of (reading u)))) b t
-    (add_all_in same_tails T (tails (fields_of (reading u))) t (inr (subst (λ (z : List Text). In t (tails z)) (e ∙ ap (λ (z : Text). fields_of (reading z)) (sym q)) j)))
-tails_every T (u ∷ b) t v w (inr i) e j = tails_every (add_all (same_list same_text) T (tails (fields_of (reading u)))) b t v w i e j
+tails_distinct : (b : List Text) → Distinct (tails_of b)
+tails_distinct b = rw (tails_are [] b) (distinct_add_all same_tails [] (flat_map tails_at b) tt)
 
 -- a tail is one of the fields of a container that is held
-tail_of : (answers : List Answer) (b : List Text) → ((w : Text) → In w b → ContainerText answers b w) → (t : List Text) → TailAt b t → Tail answers b t
-tail_of answers b h t r =
-    let c = h r.of r.held in
-    let f : fields_of (reading r.of) ≡ map printed (fields c.shape) = ap (λ (z : Text). fields_of (reading z)) c.text ∙ ap fields_of (reading_printed c.shape) in
-    let q = tail_in (fields_of (reading r.of)) t r.tail in
-    record { shape = c.shape; result = c.result; before = q.0; list = sym f ∙ q.1; filled = q.2 }
+tail_of : (answers : List Answer) (b : List Text) → ((w : Text) → In w b → ContainerText answers b w) → (t : List Text) → In t (tails_of b) → Tail answers b t
+tail_of answers b h t i = elim (in_add_all same_tails [] (flat_map tails_at b) t (rw (tails_are [] b) at i)) [
+  | inl j ↦ absurd j
+  | inr j ↦ let r = flat_in tails_at t b j in let c = h r.0 r.1 in
+      let f : fields_of (reading r.0) ≡ map printed (fields c.shape) = ap (λ (z : Text). fields_of (reading z)) c.text ∙ ap fields_of (reading_printed c.shape) in
+      let q = tail_in (fields_of (reading r.0)) t r.2 in
+      record { shape = c.shape; result = c.result; before = q.0; list = sym f ∙ q.1; filled = q.2 }
+]
 
 -- what has fields is a container
 with_fields : (s : Shape) (before t : List Text) → map printed (fields s) ≡ before ++ t → (t ≡ [] → ⊥) → Container s
@@ -156,7 +143,8 @@ with_fields s before t e n = tt
 of_tail : (answers : List Answer) (b : List Text) → ((w : Text) → ContainerText answers b w → In w b) → (t : List Text) → Tail answers b t → In t (tails_of b)
 of_tail answers b h t r =
     let i : In (printed r.shape) b = h (printed r.shape) (record { shape = r.shape; result = r.result; container = with_fields r.shape r.before t r.list r.filled; text = refl }) in
-    tails_every [] b t (map printed (fields r.shape)) (printed r.shape) i (sym (ap fields_of (reading_printed r.shape))) (rw r.list (in_tail r.before t r.filled))
+    rw (tails_are [] b) (add_all_in same_tails [] (flat_map tails_at b) t
+    (inr (in_flat tails_at t (printed r.shape) b i (rw (reading_printed r.shape, r.list) (in_tail r.before t r.filled)))))
 
 -- the book stays within its room
 abbrev Fits : Limits → List Text → Type 0
@@ -183,8 +171,8 @@ facts limits cs =
     record {
       distinct = backed_distinct (run limits [] cs).1 k;
       texts = λ w. (of w, every limits [] none_yet cs w);
-      distinct_tails = tails_distinct [] (run limits [] cs).1 tt;
-      tails = λ t. (λ i. elim (tails_only [] (run limits [] cs).1 t i) [ inl j ↦ absurd j | inr r ↦ tail_of (run limits [] cs).0 (run limits [] cs).1 of t r ], of_tail (run limits [] cs).0 (run limits [] cs).1 (every limits [] none_yet cs) t);
+      distinct_tails = tails_distinct (run limits [] cs).1;
+      tails = λ t. (tail_of (run limits [] cs).0 (run limits [] cs).1 of t, of_tail (run limits [] cs).0 (run limits [] cs).1 (every limits [] none_yet cs) t);
       types = (fits_run limits [] (omega arith) cs).0;
       fields = (fits_run limits [] (omega arith) cs).1;
       numbers = answered_known limits [] none_yet cs;

@@ -2,7 +2,7 @@
 use Rattle.std.proofs.Common.{◌≡◌, ℕ, zero, suc, ◌<◌, Bool, true, false, cond, ◌&&◌, ◌||◌, eqb, ◌⊎◌, List, [], ◌∷◌, ◌++◌, map, length, get_or, sym, refl, subst, ap₂, inl, inr, append_assoc, append-nil, arith}
 use Rattle.std.proofs.lemmas.Bool.{eq-eqb, eqb-true}
 use Rattle.std.proofs.lemmas.Slice.Zip.{all_zipped_more}
-use Rattle.std.specs.List.{AllByRecursion, AllZip}
+use Rattle.std.specs.List.{flat_map, AllByRecursion, AllZip}
 use Rattle.grammar.specs.Lists.{In, Distinct, same_list, has, place, add, add_all, tails}
 
 pub record Decides {A : Type 0} (same : A → A → Bool) : Type 0 where
@@ -190,3 +190,13 @@ get_or2 R [] us i d e l a = absurd (omega arith)
 pub map_in : {A B : Type 0} (f : A → B) (y : B) (xs : List A) → In y (map f xs) → (x : A) × In x xs × (f x ≡ y)
 map_in f y [] i = absurd i
 map_in f y (x ∷ xs) i = grind (arith, map_in f y xs)
+
+-- what stands in lists joined end to end
+pub in_flat : {A B : Type 0} (f : A → List B) (y : B) (x : A) (xs : List A) → In x xs → In y (f x) → In y (flat_map f xs)
+in_flat f y x [] i j = absurd i
+in_flat f y x (z ∷ xs) (inl e) j = in_left y (f z) (flat_map f xs) (rw e j)
+in_flat f y x (z ∷ xs) (inr i) j = in_right y (f z) (flat_map f xs) (in_flat f y x xs i j)
+
+pub flat_in : {A B : Type 0} (f : A → List B) (y : B) (xs : List A) → In y (flat_map f xs) → (x : A) × In x xs × In y (f x)
+flat_in f y [] i = absurd i
+flat_in f y (z ∷ xs) i = elim (in_split y (f z) (flat_map f xs) i) [ inl j ↦ (z, inl refl, j) | inr j ↦ let p = flat_in f y xs j in (p.0, inr p.1, p.2) ]

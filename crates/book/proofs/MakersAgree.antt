@@ -11,7 +11,8 @@ use Rattle.book.specs.Agree.{Room}
 use Rattle.book.specs.Nodes.{Node, array, maybe, dict, structure, same_node, enter, size_of, fields_of, tails_from, tails_of, answered, call}
 use Rattle.book.specs.Nodes
 use Rattle.book.specs.Makers
-use Rattle.book.proofs.Lists.{numbers, same_lists, has_in, not_in, add_old, add_new, add_all_old, add_all_append, add_all_in, place_in, place_out}
+use Rattle.std.specs.List.{flat_map}
+use Rattle.book.proofs.Lists.{in_flat, numbers, same_lists, has_in, not_in, add_old, add_new, add_all_old, add_all_append, add_all_in, place_in, place_out}
 use Rattle.book.proofs.NodeShapes.{same_nodes}
 use Rattle.book.proofs.Calls.{else_none, late_none}
 
@@ -24,15 +25,11 @@ add_tails_is : (T : List (List ℕ)) (fs : List ℕ) → Makers.add_tails T fs �
 add_tails_is T [] = refl
 add_tails_is T (f ∷ fs) = ap (λ (z : List (List ℕ)). add (same_list eqb) z (f ∷ fs)) (add_tails_is T fs) ∙ sym (add_all_append (same_lists numbers) T (tails fs) ((f ∷ fs) ∷ []))
 
--- the tails of what is in the book are there
-tails_there : (T : List (List ℕ)) (b : List Node) (x : Node) → In x b → (t : List ℕ) → In t (tails (fields_of x)) → In t (tails_from T b)
-tails_there T [] x i t j = absurd i
-tails_there T (y ∷ b) x (inl e) t j = stay (add_all (same_list eqb) T (tails (fields_of y))) b (add_all_in (same_lists numbers) T (tails (fields_of y)) t (inr (rw (← e) at j)))
-  where
-    stay : (T : List (List ℕ)) (b : List Node) → In t T → In t (tails_from T b)
-    stay T [] i = i
-    stay T (z ∷ b) i = stay (add_all (same_list eqb) T (tails (fields_of z))) b (add_all_in (same_lists numbers) T (tails (fields_of z)) t (inl i))
-tails_there T (y ∷ b) x (inr i) t j = tails_there (add_all (same_list eqb) T (tails (fields_of y))) b x i t j
+-- all tails, one list of fields after another
+tails_are : (T : List (List ℕ)) (b : List Node) → tails_from T b ≡ add_all (same_list eqb) T (flat_map (λ x. tails (fields_of x)) b)
+tails_are T [] = refl
+tails_are T (x ∷ b) =
+    tails_are (add_all (same_list eqb) T (tails (fields_of x))) b ∙ sym (add_all_append (same_lists numbers) T (tails (fields_of x)) (flat_map (λ x. tails (fields_of x)) b))
 
 abbrev after : Limits → List Node → Node → Answer × List Node
 after limits b x = answered b (enter b x) (late limits (record { size = size_of b x; types = length (add same_node b x); fields = length (tails_of (add same_node b x)) }))
@@ -40,7 +37,7 @@ after limits b x = answered b (enter b x) (late limits (record { size = size_of 
 -- the tails with x
 tails_with : (b : List Node) (x : Node) → tails_of (add same_node b x) ≡ add_all (same_list eqb) (tails_of b) (tails (fields_of x))
 tails_with b x = elim (cases_Bool (has same_node b x)) [
-  | inl h ↦ let i = has_in same_nodes b x h in rw (add_old same_nodes b x i, add_all_old (same_lists numbers) (tails_of b) (tails (fields_of x)) (tails_there [] b x i))
+  | inl h ↦ let i = has_in same_nodes b x h in rw (add_old same_nodes b x i, add_all_old (same_lists numbers) (tails_of b) (tails (fields_of x)) (λ t j. rw (tails_are [] b) (add_all_in (same_lists numbers) [] (flat_map (λ x. tails (fields_of x)) b) t (inr (in_flat (λ x. tails (fields_of x)) t x b i j)))))
   | inr h ↦ rw (add_new same_nodes b x (not_in same_nodes b x h)) (tails_append [] b (x ∷ []))
 ]
 
