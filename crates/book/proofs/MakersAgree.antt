@@ -4,7 +4,7 @@ use mathlib.Core.Option.{none, some}
 use Rattle.std.proofs.lemmas.List.{length_push}
 use Rattle.std.proofs.lemmas.Bool.Decides.{nat_tests}
 use Rattle.std.proofs.lemmas.Bool.{cases_Bool}
-use Rattle.grammar.specs.Lists.{In, same_list, has, add, add_all, tails}
+use Rattle.grammar.specs.Lists.{same_list, has, add, add_all, tails}
 use Rattle.book.specs.Plain.{Call, Answer, Limits, Refusing, longest_form, early, late, ◌else◌, first_at, when, empty_list}
 use Rattle.book.specs.Plain
 use Rattle.book.specs.Agree.{Room}

@@ -1,5 +1,5 @@
 -- The makers, test by test, answer as the plain book does and keep what a book keeps.
-use Rattle.std.proofs.Common.{◌≡◌, ℕ, List, sym, refl, subst}
+use Rattle.std.proofs.Common.{◌≡◌, ℕ, List, refl}
 use Rattle.book.specs.Plain.{Answer, Call, Limits, call}
 use Rattle.book.specs.Plain
 use Rattle.book.specs.Nodes.{Node, texts_of, tails_of}
