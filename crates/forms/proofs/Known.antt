@@ -20,9 +20,6 @@ module _ {A : Type 0} (count n : ℕ) where
   pub known_answer : (x : Outcome A) → ltb n (15 + count) ≡ true → x ≡ if_known count n x
   known_answer x e = sym (ap (λ (k : Bool). cond k x (refused 3 (0 ∷ []))) e)
 
-  pub unknown_answer : (x : Outcome A) → ltb n (15 + count) ≡ false → refused 3 (0 ∷ []) ≡ if_known count n x
-  unknown_answer x e = sym (ap (λ (k : Bool). cond k x (refused 3 (0 ∷ []))) e)
-
   -- the other way about
   accepted_by : (k : Bool) (x a : A) → accepted x ≡ cond k (accepted a) (refused 3 (0 ∷ [])) → (k ≡ true) × (x ≡ a)
   accepted_by true x a h = (refl, cc)

@@ -1,6 +1,5 @@
 -- The texts of the numbers of a sheet, by its rows.
 use Rattle.std.proofs.Common.{◌≡◌, ℕ, zero, suc, ◌+◌, ◌-◌, ◌<◌, ◌≤◌, List, [], ◌∷◌, ◌++◌, map, length, get_or, slice_get, Option as Optional, Some, None, MatchOption, sym, refl, ap, ◌∙◌, subst, ap₂, inl, inr, append_assoc, arith}
-use Rattle.std.specs.declared.ops.Range.{Range}
 use mathlib.Core.Option.{Option}
 use Rattle.std.proofs.lemmas.List.{get_or-take, get_or_past, length-take-le}
 use Rattle.grammar.specs.declared.figures.Figures.{Figures}
@@ -29,7 +28,6 @@ use Rattle.layout.proofs.Laying.{tails_long, tails_at_is}
 use Rattle.layout.proofs.Step.{node_at}
 use Rattle.sheet.proofs.Texts.{good_book, count, stands}
 use Rattle.sheet.specs.Seen.{book_in}
-use Rattle.forms.specs.Spans.{bytes_in}
 use Rattle.forms.specs.Steps.{node_text, parts_of, node_in, fields_from, FieldHere}
 
 -- Unit has the empty text, and a basic code the one byte that it is.
@@ -182,6 +180,3 @@ long_as e n = ap (λ (z : Sheet). length (text_of (book_in z) n)) e
 module _ (s s' : Sheet) (e : s' ≡ s) (n : ℕ) where
   pub byte_as : (p : ℕ) (b : Optional ℕ) → b ≡ slice_get (text_of (book_in s') n) p → b ≡ slice_get (text_of (book_in s) n) p
   byte_as p b h = h ∙ ap (λ (z : Sheet). slice_get (text_of (book_in z) n) p) e
-
-  pub bytes_as : (x : Range ℕ) (w : Text) → bytes_in x (text_of (book_in s) n) ≡ w → bytes_in x (text_of (book_in s') n) ≡ w
-  bytes_as x w h = ap (λ (z : Sheet). bytes_in x (text_of (book_in z) n)) e ∙ h
