@@ -10,7 +10,7 @@ use Rattle.book.specs.Plain.{Limits, longest_form}
 use Rattle.book.specs.Plain
 use Rattle.building.specs.Building.{Fits, with, with_all, Says, Filed, FiledAll, joined, NoRoom, Comes, Builds, BuildsFields, maybes, Wraps, Onward, whole_of, ComesWhole, BuildsWhole}
 use Rattle.building.proofs.Growth.{with_maybe, with_structure, with_joined, with_one, fits_all, fits_joined, fits_maybes, filed_all_add, filed_all_push, joined_assoc, joined_nil, printed_joined}
-use Rattle.building.proofs.Exits.{comes_from, maybe_made, structure_made}
+use Rattle.building.proofs.Exits.{maybes_longer, comes_from, maybe_made, structure_made}
 use Rattle.building.proofs.Views.{un, never_41, never_empty}
 
 -- the numbers on a stack behind those that lay there before
@@ -114,10 +114,6 @@ Wrapping limits many i n b m b₁ = (u : Shape) → Filed b n u → with b u ≡
 
 pub wrap_start : (limits : Limits) (many i n : ℕ) (b : List Text) → i ≡ 0 → Wrapping limits many i n b n b
 wrap_start limits many i n b z u f s h = let e : many - i ≡ many = omega arith in record { shape = u; is = ap (λ (k : ℕ). maybes k u) (sym e); book = sym s; filed = f }
-
-maybes_longer : (k : ℕ) (t : Shape) → length (printed t) ≤ length (printed (maybes k t))
-maybes_longer zero t = omega arith
-maybes_longer (suc k) t = omega (arith, maybes_longer k (maybe t))
 
 module _ (limits : Limits) (many i n m : ℕ) (b b₁ b₂ : List Text) (more_left : i < many) (on : Wrapping limits many i n b m b₁) where
   one_less : many - i ≡ suc (many - (i + 1))
