@@ -39,20 +39,24 @@ dict_made limits b n m t u r b' left rest f g s x l = made limits b (Plain.dict 
 pub structure_made : (limits : Limits) (b : List Text) (ns : List ℕ) (t : Shape) (ts : Shapes) (r : Result ℕ Refusal) (b' : List Text) (left rest : Text) → FiledAll b ns (more t ts) → length (printed (structure t ts)) ≤ longest_form → Says limits b (Plain.structure ns) r b' → left ≡ rest → Comes limits b (structure t ts) r b' left rest
 structure_made limits b ns t ts r b' left rest f s m l = made limits b (Plain.structure ns) (structure t ts) (whole_structure b ns t ts f) (early_structure b ns t ts f) s tt r b' left rest m.answer m.book l
 
+pub maybes_longer : (k : ℕ) (t : Shape) → length (printed t) ≤ length (printed (maybes k t))
+maybes_longer zero t = omega arith
+maybes_longer (suc k) t = omega (arith, maybes_longer k (maybe t))
+
 -- A type that is no maybe.
-module _ (limits : Limits) (text : Text) (from : ℕ) (b : List Text) where
-  pub array_stopped : (at to c : ℕ) (b₁ b' : List Text) (x : Refusal) (r : Result ℕ Refusal) → drop from text ≡ c ∷ drop at text → c ≡ 97 → ((v : Text) → drop at text ≡ 123 ∷ v → ⊥)
+module _ {limits : Limits} {text : Text} {from : ℕ} {b : List Text} where
+  pub array_stopped : {at to c : ℕ} {b₁ b' : List Text} {x : Refusal} {r : Result ℕ Refusal} → drop from text ≡ c ∷ drop at text → c ≡ 97 → ((v : Text) → drop at text ≡ 123 ∷ v → ⊥)
       → Builds limits text at b (Err x) to b₁ → r ≡ Err x → BuildsBare limits text from b r to b'
-  array_stopped at to c b₁ b' x r h q other built z = record {
+  array_stopped {at} {to} {c} {b₁} {b'} {x} {r} h q other built z = record {
     comes = λ t w nm e s.
         let v = split_array text at c t w nm q (sym h ∙ e) other in
         let g = built.comes v.0 w v.2 (omega (arith, shorter t (array v.0) v.1 s)) in
         retyped limits b t (array v.0) r b' _ w v.1 (no_room limits b b (array v.0) r x b' _ w z v.0 g (fits_part limits b (with b v.0) (array v.0) (with_array b v.0)));
   }
 
-  pub array_built : (at to c n : ℕ) (b₁ b' : List Text) (r : Result ℕ Refusal) → drop from text ≡ c ∷ drop at text → c ≡ 97 → ((v : Text) → drop at text ≡ 123 ∷ v → ⊥)
+  pub array_built : {at to c n : ℕ} {b₁ b' : List Text} {r : Result ℕ Refusal} → drop from text ≡ c ∷ drop at text → c ≡ 97 → ((v : Text) → drop at text ≡ 123 ∷ v → ⊥)
       → Builds limits text at b (Ok n) to b₁ → Says limits b₁ (Plain.array n) r b' → BuildsBare limits text from b r to b'
-  array_built at to c n b₁ b' r h q other built m = record {
+  array_built {at} {to} {c} {n} {b₁} {b'} {r} h q other built m = record {
     comes = λ t w nm e s.
         let v = split_array text at c t w nm q (sym h ∙ e) other in
         let s' = shorter t (array v.0) v.1 s in
@@ -61,9 +65,9 @@ module _ (limits : Limits) (text : Text) (from : ℕ) (b : List Text) where
         (comes_from limits b b₁ (array v.0) r b' _ w (ap (λ (y : List Text). with y (array v.0)) g.book ∙ with_array b v.0) (array_made limits b₁ n v.0 r b' _ w g.filed s' m g.onward));
   }
 
-  pub key_stopped : (at on to c : ℕ) (b₁ b' : List Text) (x : Refusal) (r : Result ℕ Refusal) → drop from text ≡ c ∷ drop at text → c ≡ 97 → drop at text ≡ 123 ∷ drop on text
+  pub key_stopped : {on to c : ℕ} (at : ℕ) {b₁ b' : List Text} {x : Refusal} {r : Result ℕ Refusal} → drop from text ≡ c ∷ drop at text → c ≡ 97 → drop at text ≡ 123 ∷ drop on text
       → Builds limits text on b (Err x) to b₁ → r ≡ Err x → BuildsBare limits text from b r to b'
-  key_stopped at on to c b₁ b' x r h q f built z = record {
+  key_stopped {on} {to} {c} at {b₁} {b'} {x} {r} h q f built z = record {
     comes = λ t w nm e s.
         let v = split_pair text at on c t w q (sym h ∙ e) f in
         let k : Shape = v.0 in let u : Shape = v.1 in
@@ -73,9 +77,9 @@ module _ (limits : Limits) (text : Text) (from : ℕ) (b : List Text) where
         (no_room limits b b (dict k u) r x b' _ w z k g (λ fit. fits_add limits (with b k) (map printed (containers u)) (fits_part limits b (with (with b k) u) (dict k u) (with_dict b k u) fit)));
   }
 
-  pub value_stopped : (at on mid to c n : ℕ) (b₁ b₂ b' : List Text) (x : Refusal) (r : Result ℕ Refusal) → drop from text ≡ c ∷ drop at text → c ≡ 97 → drop at text ≡ 123 ∷ drop on text
+  pub value_stopped : {on mid to c n : ℕ} (at : ℕ) {b₁ b₂ b' : List Text} {x : Refusal} {r : Result ℕ Refusal} → drop from text ≡ c ∷ drop at text → c ≡ 97 → drop at text ≡ 123 ∷ drop on text
       → Builds limits text on b (Ok n) mid b₁ → Builds limits text mid b₁ (Err x) to b₂ → r ≡ Err x → BuildsBare limits text from b r to b'
-  value_stopped at on mid to c n b₁ b₂ b' x r h q f key value z = record {
+  value_stopped {on} {mid} {to} {c} {n} at {b₁} {b₂} {b'} {x} {r} h q f key value z = record {
     comes = λ t w nm e s.
         let v = split_pair text at on c t w q (sym h ∙ e) f in
         let k : Shape = v.0 in let u : Shape = v.1 in
@@ -88,9 +92,9 @@ module _ (limits : Limits) (text : Text) (from : ℕ) (b : List Text) where
         (no_room limits b b₁ (dict k u) r x b' _ w z u j (λ fit. subst (λ (y : List Text). Fits limits (with y u)) (sym g.book) (fits_part limits b (with (with b k) u) (dict k u) (with_dict b k u) fit)));
   }
 
-  pub pair_built : (at on mid end to c n m : ℕ) (b₁ b₂ b' : List Text) (d : Bool) (r : Result ℕ Refusal) → drop from text ≡ c ∷ drop at text → c ≡ 97 → drop at text ≡ 123 ∷ drop on text
+  pub pair_built : {on mid end to c n m : ℕ} (at : ℕ) {b₁ b₂ b' : List Text} (d : Bool) {r : Result ℕ Refusal} → drop from text ≡ c ∷ drop at text → c ≡ 97 → drop at text ≡ 123 ∷ drop on text
       → Builds limits text on b (Ok n) mid b₁ → Builds limits text mid b₁ (Ok m) end b₂ → Eaten text end 125 d to → Says limits b₂ (Plain.dict n m) r b' → BuildsBare limits text from b r to b'
-  pair_built at on mid end to c n m b₁ b₂ b' d r h q f key value eaten says = record {
+  pair_built {on} {mid} {end} {to} {c} {n} {m} at {b₁} {b₂} {b'} d {r} h q f key value eaten says = record {
     comes = λ t w nm e s.
         let v = split_pair text at on c t w q (sym h ∙ e) f in
         let k : Shape = v.0 in let u : Shape = v.1 in
@@ -105,20 +109,16 @@ module _ (limits : Limits) (text : Text) (from : ℕ) (b : List Text) where
         (dict_made limits b₂ n m k u r b' _ w filed j.filed s' says (closed text end to d w eaten j.onward)));
   }
 
-  pub structure_built : (at to c : ℕ) (b' : List Text) (r : Result ℕ Refusal) → drop from text ≡ c ∷ drop at text → c ≡ 40 → BuildsFields limits text at b r to b' → BuildsBare limits text from b r to b'
-  structure_built at to c b' r h q built = record {
+  pub structure_built : {at to c : ℕ} {b' : List Text} {r : Result ℕ Refusal} → drop from text ≡ c ∷ drop at text → c ≡ 40 → BuildsFields limits text at b r to b' → BuildsBare limits text from b r to b'
+  structure_built {at} {to} {c} {b'} {r} h q built = record {
     comes = λ t w nm e s.
         let v = split_structure text at c t w q (sym h ∙ e) in
         retyped limits b t (structure v.0 v.1) r b' _ w v.2 (built.comes v.0 v.1 w v.3 (shorter t (structure v.0 v.1) v.2 s));
   }
 
   -- A type behind its 'm'.
-  maybes_longer : (k : ℕ) (t : Shape) → length (printed t) ≤ length (printed (maybes k t))
-  maybes_longer zero t = omega arith
-  maybes_longer (suc k) t = omega (arith, maybes_longer k (maybe t))
-
-  pub type_stopped : (at to k : ℕ) (b₁ b' : List Text) (x : Refusal) (r : Result ℕ Refusal) → Skips text from k at → BuildsBare limits text at b (Err x) to b₁ → r ≡ Err x → Builds limits text from b r to b'
-  type_stopped at to k b₁ b' x r skips built z = record {
+  pub type_stopped : {at to : ℕ} (k : ℕ) {b₁ b' : List Text} {x : Refusal} {r : Result ℕ Refusal} → Skips text from k at → BuildsBare limits text at b (Err x) to b₁ → r ≡ Err x → Builds limits text from b r to b'
+  type_stopped {at} {to} k {b₁} {b'} {x} {r} skips built z = record {
     comes = λ t w e s.
         let v = skips t w e in
         let u : Shape = v.0.shape in
@@ -126,8 +126,8 @@ module _ (limits : Limits) (text : Text) (from : ℕ) (b : List Text) where
         retyped limits b t (maybes k u) r b' _ w v.0.is (no_room limits b b (maybes k u) r x b' _ w z u g (fits_maybes limits b k u));
   }
 
-  pub type_built : (at to k n : ℕ) (b₁ b' : List Text) (r : Result ℕ Refusal) → Skips text from k at → BuildsBare limits text at b (Ok n) to b₁ → Wraps limits k n b₁ r b' → Builds limits text from b r to b'
-  type_built at to k n b₁ b' r skips built wraps = record {
+  pub type_built : {at to k n : ℕ} {b₁ b' : List Text} {r : Result ℕ Refusal} → Skips text from k at → BuildsBare limits text at b (Ok n) to b₁ → Wraps limits k n b₁ r b' → Builds limits text from b r to b'
+  type_built {at} {to} {k} {n} {b₁} {b'} {r} skips built wraps = record {
     comes = λ t w e s.
         let v = skips t w e in
         let u : Shape = v.0.shape in

@@ -1,5 +1,5 @@
 -- Types in a row, on a stack of numbers; a number behind its 'm'; a whole text.
-use Rattle.std.proofs.Common.{◌≡◌, ℕ, zero, suc, ◌+◌, ◌-◌, ◌<◌, ◌≤◌, ◌⊎◌, List, [], ◌∷◌, ◌++◌, map, length, get_or, take, take_all, drop, Ok, Err, Result, sym, refl, ap, ◌∙◌, subst, inl, inr, append_assoc, append-nil, arith, length-append, length-drop}
+use Rattle.std.proofs.Common.{◌≡◌, ℕ, suc, ◌+◌, ◌-◌, ◌<◌, ◌≤◌, ◌⊎◌, List, [], ◌∷◌, ◌++◌, map, length, get_or, take, take_all, drop, Ok, Err, Result, sym, refl, ap, ◌∙◌, subst, inl, inr, append_assoc, append-nil, arith, length-append, length-drop}
 use Rattle.std.proofs.lemmas.List.{drop_all}
 use Rattle.std.proofs.Math.Seq.{drop-append_seam}
 use Rattle.grammar.specs.declared.error.Refusal.{Refusal}
@@ -10,7 +10,7 @@ use Rattle.book.specs.Plain.{Limits, longest_form}
 use Rattle.book.specs.Plain
 use Rattle.building.specs.Building.{Fits, with, with_all, Says, Filed, FiledAll, joined, NoRoom, Comes, Builds, BuildsFields, maybes, Wraps, Onward, whole_of, ComesWhole, BuildsWhole}
 use Rattle.building.proofs.Growth.{with_maybe, with_structure, with_joined, with_one, fits_all, fits_joined, fits_maybes, filed_all_add, filed_all_push, joined_assoc, joined_nil, printed_joined}
-use Rattle.building.proofs.Exits.{comes_from, maybe_made, structure_made}
+use Rattle.building.proofs.Exits.{maybes_longer, comes_from, maybe_made, structure_made}
 use Rattle.building.proofs.Views.{un, never_41, never_empty}
 
 -- the numbers on a stack behind those that lay there before
@@ -112,13 +112,6 @@ pub record Wrapped (limits : Limits) (many i n : ℕ) (b : List Text) (u : Shape
 abbrev pub Wrapping : Limits → ℕ → ℕ → ℕ → List Text → ℕ → List Text → Type 0
 Wrapping limits many i n b m b₁ = (u : Shape) → Filed b n u → with b u ≡ b → length (printed (maybes many u)) ≤ longest_form → Wrapped limits many i n b u m b₁
 
-pub wrap_start : (limits : Limits) (many i n : ℕ) (b : List Text) → i ≡ 0 → Wrapping limits many i n b n b
-wrap_start limits many i n b z u f s h = let e : many - i ≡ many = omega arith in record { shape = u; is = ap (λ (k : ℕ). maybes k u) (sym e); book = sym s; filed = f }
-
-maybes_longer : (k : ℕ) (t : Shape) → length (printed t) ≤ length (printed (maybes k t))
-maybes_longer zero t = omega arith
-maybes_longer (suc k) t = omega (arith, maybes_longer k (maybe t))
-
 module _ (limits : Limits) (many i n m : ℕ) (b b₁ b₂ : List Text) (more_left : i < many) (on : Wrapping limits many i n b m b₁) where
   one_less : many - i ≡ suc (many - (i + 1))
   one_less = omega arith
@@ -145,15 +138,6 @@ module _ (limits : Limits) (many i n m : ℕ) (b b₁ b₂ : List Text) (more_le
         subst (λ (y : Result ℕ Refusal). Comes limits b (maybes many u) y b' left rest) (sym z)
         (record { is = g.is; full = λ fit. g.full (fits_maybes limits b (many - (i + 1)) (maybe o.shape) (subst (λ (y : Shape). Fits limits (with b y)) is' fit)) });
   }
-
-pub wrap_end : (limits : Limits) (many i n m : ℕ) (b b₁ : List Text) → many ≤ i → Wrapping limits many i n b m b₁ → Wraps limits many n b (Ok m) b₁
-wrap_end limits many i n m b b₁ l on = record {
-  comes = λ u f s h left rest e.
-      let o = on u f s h in
-      let z : many - i ≡ 0 = omega arith in
-      let is' : maybes many u ≡ o.shape = o.is ∙ ap (λ (k : ℕ). maybes k o.shape) z in
-      subst (λ (y : Shape). Comes limits b y (Ok m) b₁ left rest) (sym is') (record { book = o.book; filed = o.filed; onward = e });
-}
 
 -- A whole text.
 abbrev pub Wholing : Text → ℕ → List Text → List ℕ → List Text → Type 0

@@ -92,7 +92,7 @@ module _ (limits : Limits) (b : List Text) (c : Call) (t : Shape)
   not_over_fits : over ≡ false → Fits limits (with b t)
   unfolding over
   not_over_fits h =
-      let e = grown_with b t in let p = or_parts _ _ h in
+      let e = grown_with b t in let p = or_parts (ltb limits.types (length (grown b (printed t)))) (ltb limits.fields (length (tails_of (grown b (printed t))))) h in
       record {
         types = omega (arith, ltb-false limits.types (length (grown b (printed t))) p.0, ap length e);
         fields = omega (arith, ltb-false limits.fields (length (tails_of (grown b (printed t)))) p.1, ap (λ (z : List Text). length (tails_of z)) e);

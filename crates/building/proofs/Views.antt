@@ -52,9 +52,6 @@ never_empty (structure t ts) w e = let y : ◌≡◌ {A = ℕ} 0 1 = cc in omega
 never_empty (maybe t) w e = let y : ◌≡◌ {A = ℕ} 0 1 = cc in omega arith
 
 -- A run of 'm'.
-pub behind_none : (text : Text) (at n : ℕ) (t : Shape) (w : Text) → n ≡ 0 → drop at text ≡ printed t ++ w → Behind text at n t w
-behind_none text at n t w h e = rw h (record { shape = t; is = refl; here = e })
-
 maybe_view : (t : Shape) (v w : Text) → 109 ∷ v ≡ printed t ++ w → (u : Shape) × (t ≡ maybe u) × (v ≡ printed u ++ w)
 maybe_view (basic c h) v w e = absurd (not_basic c 109 h basic_109 (sym (un 109 c v w e).0))
 maybe_view (array t) v w e = let z : ◌≡◌ {A = ℕ} 109 97 = cc in absurd (omega arith)
