@@ -1,30 +1,14 @@
 -- The numbers of the basic codes.
-use Rattle.std.proofs.Common.{◌≡◌, ℕ, zero, suc, ◌+◌, ◌-◌, ◌<◌, ◌≤◌, Bool, true, false, eqb, None, Some, position, ◌⊎◌, inl, inr, List, [], ◌∷◌, map, length, get_or, sym, refl, ap, ◌∙◌, arith}
+use Rattle.std.proofs.Common.{◌≡◌, ℕ, ◌+◌, ◌-◌, ◌<◌, ◌≤◌, true, false, eqb, None, Some, position, ◌⊎◌, inl, inr, length, get_or, sym, ap, ◌∙◌, arith}
 use Rattle.std.proofs.lemmas.Bool.{cases_Bool, true≢false}
-use Rattle.std.proofs.lemmas.List.{get_or_append_left}
 use Rattle.std.proofs.lemmas.List.Quantifiers.{position-Some}
 use Rattle.std.proofs.lemmas.List.Sums.{fails_before_first}
 use Rattle.std.proofs.lemmas.Grind.{common_steps}
 use Rattle.std.specs.List.{position_or_len}
 use Rattle.grammar.specs.Lists.{place}
-use Rattle.grammar.specs.Shape.{Text, basic_codes, is_basic, basic}
-use Rattle.book.specs.Plain.{single, text_of}
+use Rattle.grammar.specs.Shape.{basic_codes, is_basic}
 use Rattle.book.proofs.Lists.{numbers, has_in, place_in}
-use Rattle.building.specs.Building.{Filed, CodeNumber}
-
-singles_at : (cs : List ℕ) (k : ℕ) → k < length cs → get_or (map single cs) k [] ≡ get_or cs k 0 ∷ []
-singles_at [] k h = absurd (omega arith)
-singles_at (c ∷ cs) zero h = refl
-singles_at (c ∷ cs) (suc k) h = singles_at cs k (omega arith)
-
-code_text : (b : List Text) (n : ℕ) → 0 < n → n < 15 → text_of b n ≡ get_or basic_codes (n - 1) 0 ∷ []
-code_text b zero l h = absurd (omega arith)
-code_text b (suc m) l h =
-    let e : suc m - 1 ≡ m = omega arith in
-    get_or_append_left (map single basic_codes) b [] m (omega arith) ∙ singles_at basic_codes m (omega arith) ∙ ap (λ (k : ℕ). get_or basic_codes k 0 ∷ []) (sym e)
-
-pub code_filed : (b : List Text) (c n : ℕ) (h : is_basic c ≡ true) → CodeNumber c n → Filed b n (basic c h)
-code_filed b c n h k = record { within = omega (arith, k.high); text = code_text b n k.low k.high ∙ ap (λ (z : ℕ). z ∷ []) k.code }
+use Rattle.building.specs.Building.{CodeNumber}
 
 pub code_at : (b i : ℕ) → i < 14 → get_or basic_codes i 0 ≡ b → CodeNumber b (i + 1)
 code_at b i h e = let z : i + 1 - 1 ≡ i = omega arith in record { low = omega arith; high = omega arith; code = ap (λ (k : ℕ). get_or basic_codes k 0) z ∙ e }

@@ -1,16 +1,15 @@
 -- The ways out of the building functions: what each comes to.
-use Rattle.std.proofs.Common.{◌≡◌, ℕ, zero, suc, ◌≤◌, Bool, true, List, [], ◌∷◌, ◌++◌, map, length, drop, Ok, Err, Result, sym, refl, ap, ◌∙◌, subst, arith, length-append}
-use Rattle.std.proofs.lemmas.List.{drop_all}
+use Rattle.std.proofs.Common.{◌≡◌, ℕ, zero, suc, ◌≤◌, Bool, List, [], ◌∷◌, ◌++◌, map, length, drop, Ok, Err, Result, sym, ap, ◌∙◌, subst, arith, length-append}
 use Rattle.grammar.specs.declared.error.Refusal.{Refusal}
-use Rattle.grammar.specs.Shape.{Text, is_basic, Shape, basic, array, dict, structure, maybe, Shapes, more, printed}
+use Rattle.grammar.specs.Shape.{Text, Shape, array, dict, structure, maybe, Shapes, more, printed}
 use Rattle.grammar.specs.Parts.{containers}
 use Rattle.reader.specs.Bytes.{Eaten}
 use Rattle.book.specs.Plain.{Limits, longest_form, call}
 use Rattle.book.specs.Plain
-use Rattle.building.specs.Building.{Fits, with, Says, Filed, FiledAll, Built, NoRoom, Comes, Builds, NoMaybe, BuildsBare, BuildsFields, maybes, Skips, Wraps}
+use Rattle.building.specs.Building.{Fits, with, Says, Filed, FiledAll, NoRoom, Comes, Builds, BuildsBare, BuildsFields, maybes, Skips, Wraps}
 use Rattle.building.proofs.Growth.{with_array, with_dict, with_again, fits_part, fits_add, fits_maybes, with_maybes, filed_add}
 use Rattle.building.proofs.Making.{made, early_array, early_maybe, early_dict, early_structure, whole_array, whole_maybe, whole_dict, whole_structure}
-use Rattle.building.proofs.Views.{un, never_empty, split_array, split_pair, split_structure, closed}
+use Rattle.building.proofs.Views.{split_array, split_pair, split_structure, closed}
 
 -- the same whole built from a later book
 pub comes_from : (limits : Limits) (b c : List Text) (t : Shape) (r : Result ℕ Refusal) (b' : List Text) (left rest : Text) → with c t ≡ with b t → Comes limits c t r b' left rest → Comes limits b t r b' left rest
@@ -42,9 +41,6 @@ structure_made limits b ns t ts r b' left rest f s m l = made limits b (Plain.st
 
 -- A type that is no maybe.
 module _ (limits : Limits) (text : Text) (from : ℕ) (b : List Text) where
-  pub bare_ended : (to : ℕ) (b' : List Text) (r : Result ℕ Refusal) → from ≡ length text → BuildsBare limits text from b r to b'
-  bare_ended to b' r h = record { comes = λ t w nm e s. absurd (never_empty t w (sym (drop_all from text (omega arith)) ∙ e)) }
-
   pub array_stopped : (at to c : ℕ) (b₁ b' : List Text) (x : Refusal) (r : Result ℕ Refusal) → drop from text ≡ c ∷ drop at text → c ≡ 97 → ((v : Text) → drop at text ≡ 123 ∷ v → ⊥)
       → Builds limits text at b (Err x) to b₁ → r ≡ Err x → BuildsBare limits text from b r to b'
   array_stopped at to c b₁ b' x r h q other built z = record {
@@ -115,19 +111,6 @@ module _ (limits : Limits) (text : Text) (from : ℕ) (b : List Text) where
         let v = split_structure text at c t w q (sym h ∙ e) in
         retyped limits b t (structure v.0 v.1) r b' _ w v.2 (built.comes v.0 v.1 w v.3 (shorter t (structure v.0 v.1) v.2 s));
   }
-
-  basic_by : (at c n : ℕ) → drop from text ≡ c ∷ drop at text → (c ≡ 97 → ⊥) → (c ≡ 40 → ⊥) → ((h : is_basic c ≡ true) → Filed b n (basic c h)) → (t : Shape) (w : Text) → NoMaybe t → drop from text ≡ printed t ++ w → Built limits b t n b (drop at text) w
-  basic_by at c n h x y f (basic d i) w nm e = let p = un c d _ _ (sym h ∙ e) in record { book = refl; filed = coded d i p.0; onward = p.1 }
-    where
-      coded : (d : ℕ) (i : is_basic d ≡ true) → c ≡ d → Filed b n (basic d i)
-      coded d i q = let g = f (ap is_basic q ∙ i) in record { within = g.within; text = g.text ∙ ap (λ (z : ℕ). z ∷ []) q }
-  basic_by at c n h x y f (array t) w nm e = absurd (x (un c 97 _ _ (sym h ∙ e)).0)
-  basic_by at c n h x y f (dict k v) w nm e = absurd (x (un c 97 _ _ (sym h ∙ e)).0)
-  basic_by at c n h x y f (structure t ts) w nm e = absurd (y (un c 40 _ _ (sym h ∙ e)).0)
-  basic_by at c n h x y f (maybe t) w nm e = absurd nm
-
-  pub basic_built : (at c n : ℕ) → drop from text ≡ c ∷ drop at text → (c ≡ 97 → ⊥) → (c ≡ 40 → ⊥) → ((h : is_basic c ≡ true) → Filed b n (basic c h)) → BuildsBare limits text from b (Ok n) at b
-  basic_built at c n h x y f = record { comes = λ t w nm e s. basic_by at c n h x y f t w nm e }
 
   -- A type behind its 'm'.
   maybes_longer : (k : ℕ) (t : Shape) → length (printed t) ≤ length (printed (maybes k t))

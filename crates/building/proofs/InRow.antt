@@ -1,11 +1,10 @@
 -- Types in a row, on a stack of numbers; a number behind its 'm'; a whole text.
-use Rattle.std.proofs.Common.{◌≡◌, ℕ, zero, suc, ◌+◌, ◌-◌, ◌<◌, ◌≤◌, Bool, true, false, ◌⊎◌, List, [], ◌∷◌, ◌++◌, map, length, get_or, take, take_all, drop, set, Ok, Err, Result, sym, refl, ap, ◌∙◌, subst, inl, inr, append_assoc, append-nil, arith, length-append, length-drop}
-use Rattle.std.proofs.lemmas.List.{drop_all, take_more_set, drop-append-le, length-take-le, take-take, take-set-le, drop-take}
+use Rattle.std.proofs.Common.{◌≡◌, ℕ, zero, suc, ◌+◌, ◌-◌, ◌<◌, ◌≤◌, ◌⊎◌, List, [], ◌∷◌, ◌++◌, map, length, get_or, take, take_all, drop, Ok, Err, Result, sym, refl, ap, ◌∙◌, subst, inl, inr, append_assoc, append-nil, arith, length-append, length-drop}
+use Rattle.std.proofs.lemmas.List.{drop_all}
 use Rattle.std.proofs.Math.Seq.{drop-append_seam}
 use Rattle.grammar.specs.declared.error.Refusal.{Refusal}
 use Rattle.grammar.specs.Shape.{Text, Shape, structure, maybe, Shapes, nil, more, printed, printed_all}
 use Rattle.grammar.specs.Parts.{containers}
-use Rattle.reader.specs.Bytes.{Eaten}
 use Rattle.reader.specs.Parsing.{count_of}
 use Rattle.book.specs.Plain.{Limits, longest_form}
 use Rattle.book.specs.Plain
@@ -17,10 +16,6 @@ use Rattle.building.proofs.Views.{un, never_41, never_empty}
 -- the numbers on a stack behind those that lay there before
 pub those_after : (s xs ns : List ℕ) (n : ℕ) → s ≡ xs ++ ns → n ≡ length xs → take (length s - n) (drop n s) ≡ ns
 those_after s xs ns n e h = rw (e, h, drop-append_seam) (take_all _ ns (omega (arith, length-append xs ns)))
-
-pub eaten_on : (text : Text) (at b to : ℕ) (r : Bool) → Eaten text at b r to → at ≤ to
-eaten_on text at b to true x = omega (arith, x.past)
-eaten_on text at b to false x = omega (arith, x.same)
 
 pub byte_here : (text : Text) (at to b : ℕ) → (at < length text) × (to ≡ at + 1) × (drop at text ≡ b ∷ drop (at + 1) text) → drop at text ≡ b ∷ drop to text
 byte_here text at to b x = x.2 ∙ ap (λ (n : ℕ). b ∷ drop n text) (sym x.1)

@@ -74,9 +74,6 @@ no_maybe text at (dict k v) w e n = tt
 no_maybe text at (structure t ts) w e n = tt
 no_maybe text at (maybe t) w e n = n (printed t ++ w) e
 
-pub behind_at : (text : Text) (at to n m : ℕ) (t : Shape) (w : Text) → to ≡ at → m ≡ n → Behind text at n t w → Behind text to m t w
-behind_at text at to n m t w h g b = rw (h, g) b
-
 pub skipped : (text : Text) (at to n m : ℕ) (t : Shape) (w : Text) → to ≡ at → m ≡ n → Behind text at n t w → ((v : Text) → drop at text ≡ 109 ∷ v → ⊥)
     → (b : Behind text to m t w) × NoMaybe b.shape
 skipped text at to n m t w h g b other = rw (h, g) (b, no_maybe text at b.shape w b.here other)

@@ -1,8 +1,7 @@
 -- Bare forms: a structure's text is its bare form in a pair of parentheses, and any other text is bare itself.
-use Rattle.std.proofs.Common.{◌≡◌, ℕ, suc, ◌+◌, ◌-◌, ◌≤◌, true, eqb, ◌⊎◌, List, [], ◌∷◌, ◌++◌, length, take, drop, slice_range, sym, refl, ap, ◌∙◌, subst, inl, inr, arith, eq-eqb, ne_eqb}
+use Rattle.std.proofs.Common.{◌≡◌, ℕ, suc, ◌+◌, ◌-◌, ◌≤◌, Bool, true, false, List, [], ◌∷◌, ◌++◌, length, take, drop, sym, refl, ap, ◌∙◌, subst, arith}
 use mathlib.Core.Option.{Option, none, some}
 use Rattle.std.proofs.lemmas.List.{length-append, take_at, take_all}
-use Rattle.std.proofs.lemmas.Bool.{cases_eq}
 use Rattle.grammar.specs.Shape.{Text, Shape, basic, array, maybe, dict, structure, printed, printed_all}
 use Rattle.grammar.specs.Read.{reading}
 use Rattle.grammar.proofs.Prefix.{bare}
@@ -13,13 +12,18 @@ use Rattle.book.specs.Nodes.{Node, Known, node_shape, shapes_from}
 use Rattle.book.specs.Nodes
 use Rattle.sheet.specs.declared.sheet.Sheet.{Sheet}
 use Rattle.layout.specs.declared.row.TypeRow.{TypeRow}
-use Rattle.layout.specs.Kept.{nodes_of}
+use Rattle.layout.specs.declared.row.FieldRow.{FieldRow}
+use Rattle.layout.specs.declared.row.Kind.{Kind}
+use Rattle.layout.specs.declared.row.Kind.TheVariants.{Blank, Array, Dict, Structure, Maybe}
+use Rattle.layout.specs.Tails.{tail_at, row_tails}
+use Rattle.layout.specs.Kept.{node_by, nodes_of, fields_in}
 use Rattle.forms.specs.Forms.{bare_by, bare_text, Paired}
 use Rattle.sheet.specs.Seen.{book_in}
-use Rattle.forms.specs.Steps.{node_in, fields_from}
-use Rattle.forms.specs.Spans.{Inside}
+use Rattle.forms.specs.Spans.{Covers}
+use Rattle.grammar.specs.Refusals.{accepted}
+use Rattle.book.specs.Questions.{string_length_of}
+use Rattle.forms.proofs.Known.{Long, told_known}
 use Rattle.forms.proofs.Texts.{Row, row_known, row_shape}
-use Rattle.forms.proofs.Leading.{node_by_is, node_other}
 
 -- a text of at most one byte is no structure's
 pub bare_short : (w : Text) → length w ≤ 1 → bare_text w ≡ w
@@ -44,46 +48,63 @@ structure_paired ss k (f ∷ fs) h =
     let t : Shape = node_shape ss (Nodes.structure (f ∷ fs)) in
     bare (Nodes.shape_at ss f) (Nodes.shapes_at ss fs) ∙ ap (λ (u : Text). 40 ∷ (u ++ 41 ∷ [])) (sym (bare_printed t))
 
--- the text of a row
-module _ (s : Sheet) {n : ℕ} {x : TypeRow} (r : Row s n x) where
-  abbrev ss : List Shape
-  ss = shapes_from [] (nodes_of s.types s.fields)
+-- the text of a container, by the kind of its row
+abbrev pub is_structure : Kind → Bool
+is_structure Blank = false
+is_structure Array = false
+is_structure Dict = false
+is_structure Structure = true
+is_structure Maybe = false
 
-  abbrev Told : Type 0
-  Told = Paired (printed (node_shape ss (node_in s x))) (eqb x.kind 3)
+pub not_structure : (k : Kind) → (k ≡ Structure → ⊥) → is_structure k ≡ false
+not_structure Structure h = absurd (h refl)
+not_structure k h = refl
 
-  by : (y : Node) → node_in s x ≡ y → bare_text (printed (node_shape ss y)) ≡ printed (node_shape ss y) → (x.kind ≡ 3 → ⊥) → Told
-  by y e q no3 =
-      subst (Paired (printed (node_shape ss (node_in s x)))) (sym (ne_eqb x.kind 3 no3)) (subst (λ (z : Node). bare_text (printed (node_shape ss z)) ≡ printed (node_shape ss z)) (sym e) q)
+kind_paired : (ss : List Shape) (m : ℕ) (F : List FieldRow) (k : Kind) (a b : ℕ) → Known m (node_by F k a b) → Paired (printed (node_shape ss (node_by F k a b))) (is_structure k)
+kind_paired ss m F Blank a b h = bare_printed (node_shape ss (Nodes.maybe a))
+kind_paired ss m F Array a b h = bare_printed (node_shape ss (Nodes.array a))
+kind_paired ss m F Dict a b h = bare_printed (node_shape ss (Nodes.dict a b))
+kind_paired ss m F Structure a b h = structure_paired ss m (tail_at (row_tails F) a) h
+kind_paired ss m F Maybe a b h = bare_printed (node_shape ss (Nodes.maybe a))
 
-  other : (x.kind ≡ 1) ⊎ (x.kind ≡ 1 → ⊥) → (x.kind ≡ 2) ⊎ (x.kind ≡ 2 → ⊥) → (x.kind ≡ 3 → ⊥) → Told
-  other (inl e) d no3 = by (Nodes.array x.first) (node_by_is s x 1 e) (bare_printed (node_shape ss (Nodes.array x.first))) no3
-  other (inr no1) (inl e) no3 = by (Nodes.dict x.first x.second) (node_by_is s x 2 e) (bare_printed (node_shape ss (Nodes.dict x.first x.second))) no3
-  other (inr no1) (inr no2) no3 = by (Nodes.maybe x.first) (node_other s x no1 no2 no3) (bare_printed (node_shape ss (Nodes.maybe x.first))) no3
+pub row_paired : (s : Sheet) {n : ℕ} {x : TypeRow} → Row s n x → (q : Bool) → is_structure x.kind ≡ q → Paired (text_of (book_in s) n) q
+row_paired s {n} {x} r q e =
+    subst (Paired (text_of (book_in s) n)) e
+    (subst (λ (w : Text). Paired w (is_structure x.kind)) (sym (row_shape s r)) (kind_paired (shapes_from [] (nodes_of s.types s.fields)) (n - 15) (fields_in s.fields) x.kind x.first x.second (row_known s r)))
 
-  told : (x.kind ≡ 3) ⊎ (x.kind ≡ 3 → ⊥) → Told
-  told (inl e) =
-      let y : node_in s x ≡ Nodes.structure (fields_from s x.first) = node_by_is s x 3 e in
-      subst (Paired (printed (node_shape ss (node_in s x)))) (sym (eq-eqb x.kind 3 e))
-      (subst (λ (z : Node). Paired (printed (node_shape ss z)) true) (sym y) (structure_paired ss (n - 15) (fields_from s x.first) (subst (Known (n - 15)) y (row_known s r))))
-  told (inr no3) = other (cases_eq x.kind 1) (cases_eq x.kind 2) no3
+-- The places of the forms, where l is the length that a sheet answers of n.
+module _ (s : Sheet) (n l : ℕ) (h : accepted l ≡ string_length_of (book_in s) n) (fit : l ≤ 65535) where
+  abbrev w : Text
+  w = text_of (book_in s) n
 
-  pub row_paired : Paired (text_of (book_in s) n) (eqb x.kind 3)
-  row_paired = subst (λ (w : Text). Paired w (eqb x.kind 3)) (sym (row_shape s r)) (told (cases_eq x.kind 3))
+  told : Long (book_in s) n l
+  told = told_known s n l h
 
--- The places of the forms.
-pub whole_places : (w : Text) (size : ℕ) → size ≡ length w → size ≤ 65535 → Inside w (record { start = 0; end = size }) × (slice_range w 0 size ≡ w)
-whole_places w size e l = (record { ordered = omega arith; within = omega arith; short = omega arith }, take_all (size - 0) w (omega arith))
+  pub whole_places : Covers (book_in s) n w (record { start = 0; end = l })
+  whole_places = record {
+    known = told.known;
+    inside = record { ordered = omega arith; within = omega (arith, told.long); short = omega (arith, told.long) };
+    bytes = take_all (l - 0) w (omega (arith, told.long));
+  }
 
-module _ (w : Text) (size : ℕ) (e : size ≡ length w) (p : Paired w true) where
-  pair_long : length w ≡ suc (length (bare_text w) + 1)
-  pair_long = ap length p ∙ ap suc (length-append (bare_text w) (41 ∷ []))
+  -- the sheet is the same where it is asked whether n is a structure
+  module _ {s' : Sheet} (e : s' ≡ s) where
+    here : (q : Bool) → Paired (text_of (book_in s') n) q → Paired w q
+    here q p = subst (λ (z : Sheet). Paired (text_of (book_in z) n) q) e p
 
-  pub pair_two : 2 ≤ size
-  pair_two = omega (arith, pair_long)
+    pub bare_places : Paired (text_of (book_in s') n) false → Covers (book_in s) n (bare_text w) (record { start = 0; end = l })
+    bare_places p = record { known = whole_places.known; inside = whole_places.inside; bytes = whole_places.bytes ∙ sym (here false p) }
 
-  pub inner_places : size ≤ 65535 → Inside w (record { start = 1; end = size - 1 }) × (slice_range w 1 (size - 1) ≡ bare_text w)
-  inner_places l = (
-    record { ordered = omega (arith, pair_long); within = omega (arith, pair_long); short = omega arith },
-    ap (λ (t : Text). take (size - 1 - 1) (drop 1 t)) p ∙ take_at (bare_text w) (41 ∷ []) (size - 1 - 1) (omega (arith, pair_long)),
-  )
+    module _ (p : Paired (text_of (book_in s') n) true) where
+      two_more : length w ≡ suc (length (bare_text w) + 1)
+      two_more = ap length (here true p) ∙ ap suc (length-append (bare_text w) (41 ∷ []))
+
+      pub pair_two : 2 ≤ l
+      pair_two = omega (arith, told.long, two_more)
+
+      pub inner_places : Covers (book_in s) n (bare_text w) (record { start = 1; end = l - 1 })
+      inner_places = record {
+        known = told.known;
+        inside = record { ordered = omega (arith, pair_two); within = omega (arith, told.long); short = omega (arith, told.long) };
+        bytes = ap (λ (t : Text). take (l - 1 - 1) (drop 1 t)) (here true p) ∙ take_at (bare_text w) (41 ∷ []) (l - 1 - 1) (omega (arith, told.long, two_more));
+      }

@@ -1,11 +1,10 @@
 -- What is answered about a number, where it is known and where it is not.
-use Rattle.std.proofs.Common.{◌≡◌, ℕ, ◌+◌, ◌-◌, ◌<◌, ◌≤◌, Bool, true, false, cond, ltb, List, [], ◌∷◌, length, Some, None, Ok, Err, Option, Result, MatchOption, MatchResult, SomeIff, sym, refl, ap, ◌∙◌, arith, le-ltb, lt-ltb}
+use Rattle.std.proofs.Common.{◌≡◌, ℕ, ◌+◌, ◌<◌, ◌≤◌, Bool, true, false, cond, ltb, List, [], ◌∷◌, length, Some, None, Ok, Err, Result, MatchResult, sym, refl, ap, ◌∙◌, le-ltb, lt-ltb}
 use Rattle.std.specs.Option.{unwrap_or}
 use Rattle.std.specs.Result.{is_ok, IsErr, IsErrAnd}
 use Rattle.std.proofs.lemmas.Bool.{ltb-true, ltb-false}
 use Rattle.grammar.specs.declared.error.Refusal.{Refusal}
 use Rattle.grammar.specs.declared.error.Refusal.TheVariants.{Unknown}
-use Rattle.grammar.specs.declared.error.Refusal
 use Rattle.grammar.specs.Refusals.{Outcome, accepted, refused, outcome, number_of, values_of}
 use Rattle.grammar.specs.Shape.{Text}
 use Rattle.grammar.specs.Figures.{text_figures}
@@ -50,18 +49,12 @@ long_in b n l k e = ap Some e ∙ sym (ap (λ (q : Bool). cond q (Some (length (
 pub no_length : (b : List Text) (n : ℕ) → 15 + length b ≤ n → None ≡ length_in b n
 no_length b n l = sym (ap (λ (q : Bool). cond q (Some (length (text_of b n))) None) (le-ltb n (15 + length b) l))
 
--- how far p is past the text of n, by its length
-length_or_none : (b : List Text) (n : ℕ) → unwrap_or (length_in b n) 0 ≡ length (text_of b n)
+pub length_or_none : (b : List Text) (n : ℕ) → unwrap_or (length_in b n) 0 ≡ length (text_of b n)
 length_or_none b n = go (ltb n (15 + length b)) refl
   where
     go : (k : Bool) → ltb n (15 + length b) ≡ k → unwrap_or (cond k (Some (length (text_of b n))) None) 0 ≡ length (text_of b n)
     go true e = refl
     go false e = sym (ap length (no_text b n (ltb-false n (15 + length b) e)))
-
-pub past_by : (b : List Text) (n p l : ℕ) (o rest : Option ℕ) → o ≡ length_in b n → l ≡ unwrap_or o 0 → SomeIff rest (l ≤ p) (p - l)
-    → MatchOption rest (p < length (text_of b n)) (λ r. length (text_of b n) + r ≡ p)
-past_by b n p l o None e f h = let k : l ≡ length (text_of b n) = f ∙ ap (λ (q : Option ℕ). unwrap_or q 0) e ∙ length_or_none b n in omega (arith, h, k)
-past_by b n p l o (Some r) e f h = let k : l ≡ length (text_of b n) = f ∙ ap (λ (q : Option ℕ). unwrap_or q 0) e ∙ length_or_none b n in omega (arith, h.0, h.1, k)
 
 -- What the length that a sheet answers says of a number.
 module _ (s : Sheet) (n : ℕ) where

@@ -1,14 +1,16 @@
 -- The steps to a byte: along the parts of a container, and by its row.
-use Rattle.std.proofs.Common.{◌≡◌, ℕ, ◌+◌, ◌-◌, ◌<◌, ◌≤◌, List, [], ◌∷◌, ◌++◌, length, slice_get, nat_eq, Option, sym, refl, ap, ◌∙◌, subst, inl, inr, append_assoc, arith, ne_eqb}
+use Rattle.std.proofs.Common.{◌≡◌, ℕ, ◌+◌, ◌-◌, ◌<◌, ◌≤◌, List, [], ◌∷◌, ◌++◌, length, slice_get, nat_eq, Option, sym, refl, ap, ◌∙◌, subst, inl, inr, append_assoc, arith}
 use Rattle.std.specs.Bool.{then_some}
 use Rattle.grammar.specs.Lists.{In}
 use Rattle.grammar.specs.Shape.{Text}
 use Rattle.book.specs.Plain.{text_of, texts}
-use Rattle.book.specs.Nodes.{Node, maybe, dict}
+use Rattle.book.specs.Nodes.{maybe, dict}
 use Rattle.sheet.specs.declared.sheet.Sheet.{Sheet}
 use Rattle.sheet.specs.Seen.{book_in}
 use Rattle.layout.specs.declared.row.TypeRow.{TypeRow}
 use Rattle.layout.specs.declared.row.FieldRow.{FieldRow}
+use Rattle.layout.specs.declared.row.Kind.{Kind}
+use Rattle.layout.specs.declared.row.Kind.TheVariants.{Array, Dict, Structure}
 use Rattle.layout.specs.Kept.{node_by, fields_in}
 use Rattle.forms.specs.declared.bytes.Step.{Step}
 use Rattle.forms.specs.declared.bytes.Step.TheVariants.{Done, Part}
@@ -46,15 +48,19 @@ onto {s} {s'} {all} {p} {at} {left} {x} r e h =
     let f : FieldHere s at x = subst (λ (z : Sheet). FieldHere z at x) e h in
     subst (λ (fs : List ℕ). Reached (book_in s) 41 all p fs left) f.fields r
 
--- The container of a row, by its kind.
-pub node_by_is : (s : Sheet) (r : TypeRow) (k : ℕ) → r.kind ≡ k → node_in s r ≡ node_by (fields_in s.fields) k r.first r.second
-node_by_is s r k e = ap (λ (k : ℕ). node_by (fields_in s.fields) k r.first r.second) e
+-- a step by a row of the kind k
+pub leads_by : (s : Sheet) (r : TypeRow) (k : Kind) (p : ℕ) (o : Step) → r.kind ≡ k
+    → Leads (book_in s) (node_text (book_in s) (node_by (fields_in s.fields) k r.first r.second)) (parts_of (node_by (fields_in s.fields) k r.first r.second)) p o
+    → Leads (book_in s) (node_text (book_in s) (node_in s r)) (parts_of (node_in s r)) p o
+leads_by s r k p o e l = subst (λ (j : Kind). Leads (book_in s) (node_text (book_in s) (node_by (fields_in s.fields) j r.first r.second)) (parts_of (node_by (fields_in s.fields) j r.first r.second)) p o) (sym e) l
 
-pub node_other : (s : Sheet) (r : TypeRow) → (r.kind ≡ 1 → ⊥) → (r.kind ≡ 2 → ⊥) → (r.kind ≡ 3 → ⊥) → node_in s r ≡ maybe r.first
-node_other s r a b c = rw (ne_eqb r.kind 1 a, ne_eqb r.kind 2 b, ne_eqb r.kind 3 c)
-
-pub leads_as : (b : List Text) (x y : Node) (p : ℕ) (r : Step) → x ≡ y → Leads b (node_text b y) (parts_of y) p r → Leads b (node_text b x) (parts_of x) p r
-leads_as b x y p r e l = subst (λ (z : Node). Leads b (node_text b z) (parts_of z) p r) (sym e) l
+pub leads_other : (s : Sheet) (r : TypeRow) (k : Kind) (p : ℕ) (o : Step) → (k ≡ Array → ⊥) → (k ≡ Dict → ⊥) → (k ≡ Structure → ⊥)
+    → Leads (book_in s) (node_text (book_in s) (maybe r.first)) (r.first ∷ []) p o
+    → Leads (book_in s) (node_text (book_in s) (node_by (fields_in s.fields) k r.first r.second)) (parts_of (node_by (fields_in s.fields) k r.first r.second)) p o
+leads_other s r Array p o a b c l = absurd (a refl)
+leads_other s r Dict p o a b c l = absurd (b refl)
+leads_other s r Structure p o a b c l = absurd (c refl)
+leads_other s r k p o a b c l = l
 
 -- a step in what stands behind a byte
 pub leads_behind : (b : List Text) (c p : ℕ) (w : Text) (ms : List ℕ) (r : Step) → 0 < p → Leads b w ms (p - 1) r → Leads b (c ∷ w) ms p r

@@ -2,7 +2,7 @@
 use Rattle.std.proofs.Common.{◌≡◌, ℕ, zero, suc, ◌+◌, ◌-◌, ◌<◌, ◌≤◌, List, [], ◌∷◌, ◌++◌, map, length, get_or, slice_get, Option as Optional, Some, None, MatchOption, sym, refl, ap, ◌∙◌, subst, ap₂, inl, inr, append_assoc, arith}
 use Rattle.std.specs.declared.ops.Range.{Range}
 use mathlib.Core.Option.{Option}
-use Rattle.std.proofs.lemmas.List.{get_or-take, get_or-map, get_or_past, get_or_append_left, length-take-le}
+use Rattle.std.proofs.lemmas.List.{get_or-take, get_or_past, length-take-le}
 use Rattle.grammar.specs.declared.figures.Figures.{Figures}
 use Rattle.grammar.specs.Lists.{In}
 use Rattle.grammar.specs.Shape.{Text, basic_codes, Shape, printed, printed_all}
@@ -110,11 +110,11 @@ module _ (s : Sheet) where
     pub container : 15 ≤ n
     pub located : Located s.types (n - 15) x
 
-  pub row_at : {n i : ℕ} {x : TypeRow} → (15 ≤ n) × (i ≡ n - 15) → Located s.types i x → Row n x
-  row_at {n} {i} {x} h l = record { container = h.0; located = subst (λ (k : ℕ). Located s.types k x) h.1 l }
+  pub row_at : {n i : ℕ} {x : TypeRow} → n ≡ 15 + i → Located s.types i x → Row n x
+  row_at {n} {i} {x} h l = let e : i ≡ n - 15 = omega arith in record { container = omega arith; located = subst (λ (k : ℕ). Located s.types k x) e l }
 
-  pub no_row : {n i : ℕ} → (15 ≤ n) × (i ≡ n - 15) → s.types.count ≤ i → 15 + length (book_in s) ≤ n
-  no_row {n} {i} h l = omega (arith, h.0, h.1, book_long)
+  pub no_row : {n i : ℕ} → n ≡ 15 + i → s.types.count ≤ i → 15 + length (book_in s) ≤ n
+  no_row {n} {i} h l = omega (arith, book_long)
 
   module _ {n : ℕ} {x : TypeRow} (r : Row n x) where
     low : n - 15 < s.types.count

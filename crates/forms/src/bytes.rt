@@ -9,7 +9,7 @@ ghost use Rattle.forms.specs.Steps.{node_text, parts_of, node_in, fields_from, L
 
 use grammar::codes::CODES;
 use grammar::error::Refusal;
-use sheet::row::{ARRAY, DICT, FieldRow, STRUCTURE, TypeRow};
+use sheet::row::{FieldRow, Kind, TypeRow, place_of};
 use sheet::sheet::Sheet;
 
 // The byte itself, none past the end, or a part of the signature and the place in it.
@@ -30,6 +30,7 @@ fn first_byte(n: u16, p: usize) -> Option<u8>
 }
 
 // Whether `n` is a number of the sheet.
+#[tactic(auto, using(crate::proofs::Known::is_ok_known))]
 pub fn is_known(sheet: &mut Sheet, n: u16) -> bool
     ensures same { sheet.new ≡ sheet.old }
     ensures known { result ≡ nat_lt n (15 + length (book_in sheet.old)) }
@@ -43,14 +44,15 @@ pub fn length_of(sheet: &mut Sheet, n: u16) -> Option<u16>
     ensures same { sheet.new ≡ sheet.old }
     ensures long { result ≡ length_in (book_in sheet.old) n }
 {
-    let Some(i) = n.checked_sub(15) else {
+    let Some(i) = place_of(n) else {
         return Some(n.min(1));
     };
-    let row = sheet.type_row(i as usize)?;
+    let row = sheet.type_row(i)?;
     Some(row.figures.length)
 }
 
 // How far place `p` is past the printed form of a part; none where it stands in that form.
+#[tactic(auto, using(crate::proofs::Known::length_or_none))]
 fn past(sheet: &mut Sheet, part: u16, p: usize) -> Option<usize>
     ensures same { sheet.new ≡ sheet.old }
     ensures past { MatchOption result (p < length (text_of (book_in sheet.old) part)) (λ rest. length (text_of (book_in sheet.old) part) + rest ≡ p) }
@@ -60,6 +62,7 @@ fn past(sheet: &mut Sheet, part: u16, p: usize) -> Option<usize>
 }
 
 // The field row numbered `at`, from 1; none at the end of a list of fields.
+#[tactic(auto, using(crate::proofs::Texts::field_by))]
 fn field_at(sheet: &mut Sheet, at: u16) -> Option<FieldRow>
     ensures same { sheet.new ≡ sheet.old }
     ensures field { MatchOption result (fields_from sheet.old at ≡ []) (λ x. FieldHere sheet.old at x) }
@@ -115,12 +118,12 @@ fn row_step(sheet: &mut Sheet, row: TypeRow, p: usize) -> Step
     ensures leads { Leads (book_in sheet.old) (node_text (book_in sheet.old) (node_in sheet.old row)) (parts_of (node_in sheet.old row)) p result }
 {
     match (row.kind, p) {
-        (ARRAY, _) => child_step(b'a', row.first, p),
-        (DICT, 0) => Step::Done(Some(b'a')),
-        (DICT, 1) => Step::Done(Some(b'{')),
-        (DICT, _) => pair_step(sheet, row.first, row.second, p - 2),
-        (STRUCTURE, 0) => Step::Done(Some(b'(')),
-        (STRUCTURE, _) => fields_step(sheet, row.first, p - 1),
+        (Kind::Array, _) => child_step(b'a', row.first, p),
+        (Kind::Dict, 0) => Step::Done(Some(b'a')),
+        (Kind::Dict, 1) => Step::Done(Some(b'{')),
+        (Kind::Dict, _) => pair_step(sheet, row.first, row.second, p - 2),
+        (Kind::Structure, 0) => Step::Done(Some(b'(')),
+        (Kind::Structure, _) => fields_step(sheet, row.first, p - 1),
         _ => child_step(b'm', row.first, p),
     }
 }
@@ -130,10 +133,10 @@ pub fn byte(sheet: &mut Sheet, n: u16, p: usize) -> Option<u8>
     ensures same { sheet.new ≡ sheet.old }
     ensures byte { result ≡ slice_get (text_of (book_in sheet.old) n) p }
 {
-    let Some(i) = n.checked_sub(15) else {
+    let Some(i) = place_of(n) else {
         return first_byte(n, p);
     };
-    let row = sheet.type_row(i as usize)?;
+    let row = sheet.type_row(i)?;
     match row_step(sheet, row, p) {
         Step::Done(found) => found,
         Step::Part(part, place) => byte(sheet, part, place),
@@ -141,6 +144,7 @@ pub fn byte(sheet: &mut Sheet, n: u16, p: usize) -> Option<u8>
 }
 
 // The byte at place `p` of the printed form of `n`, none past its end.
+#[tactic(auto, unfolding(crate::specs::Forms::byte_of))]
 pub fn byte_at(sheet: &mut Sheet, n: u16, p: usize) -> Result<Option<u8>, Refusal>
     ensures same { sheet.new ≡ sheet.old }
     ensures answer { outcome result ≡ byte_of (book_in sheet.old) n p }

@@ -6,7 +6,7 @@ ghost use Rattle.sheet.specs.Seen.{book_in};
 ghost use Rattle.forms.specs.Spans.{Covers, NotKnown};
 
 use grammar::error::Refusal;
-use sheet::row::STRUCTURE;
+use sheet::row::{Kind, place_of};
 use sheet::sheet::Sheet;
 use std::ops::Range;
 
@@ -15,11 +15,11 @@ fn is_structure(sheet: &mut Sheet, n: u16) -> bool
     ensures same { sheet.new ≡ sheet.old }
     ensures paired { Paired (text_of (book_in sheet.old) n) result }
 {
-    let Some(i) = n.checked_sub(15) else {
+    let Some(i) = place_of(n) else {
         return false;
     };
-    match sheet.type_row(i as usize) {
-        Some(row) => row.kind == STRUCTURE,
+    match sheet.type_row(i) {
+        Some(row) => matches!(row.kind, Kind::Structure),
         None => false,
     }
 }

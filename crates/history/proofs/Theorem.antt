@@ -5,7 +5,6 @@ use Rattle.std.proofs.lemmas.Bool.{cases_lt}
 use Rattle.std.proofs.lemmas.Bool.Decides.{nat_tests}
 use Rattle.std.proofs.lemmas.Grind.{common_steps}
 use Rattle.grammar.specs.declared.error.Refusal.{Refusal}
-use Rattle.grammar.specs.declared.figures.Figures.{Figures}
 use Rattle.grammar.specs.Shape.{Text, basic_codes}
 use Rattle.grammar.specs.Figures.{text_figures}
 use Rattle.grammar.specs.Refusals.{Outcome}
@@ -38,17 +37,10 @@ module _ (s : Sheet) (b : List Text) (rows : Stands s.types s.fields b) where
       from h (inl l) = inl (omega arith)
       from h (inr l) = inr (n - 15, omega arith, omega (arith, rows.types_count))
 
-  text_of_row : (k : ℕ) → text_of b (15 + k) ≡ get_or b k []
-  text_of_row k = get_or-append-add ([] ∷ map single basic_codes) b k []
-
   stored : (k : ℕ) (d : TypeRow) → k < s.types.count → (get_or s.types.rows.now k d).figures ≡ text_figures (text_of b (15 + k))
   stored k d h =
       let l : length (types_in s.types) ≡ s.types.count = length-take-le s.types.count s.types.rows.now (omega arith) in
-      ap figures_in (sym (get_or-take s.types.count s.types.rows.now k d h))
-      ∙ sym (get_or-map figures_in (types_in s.types) k d (text_figures []) (omega arith))
-      ∙ ap (λ (z : List Figures). get_or z k (text_figures [])) rows.type_figures
-      ∙ get_or-map text_figures b k [] (text_figures []) (omega (arith, rows.types_count))
-      ∙ ap text_figures (sym (text_of_row k))
+      grind (arith, rows.types_count, rows.type_figures, get_or-take s.types.count s.types.rows.now k d, get_or-map figures_in (types_in s.types) k d (text_figures []), get_or-map text_figures b k [] (text_figures []), get_or-append-add ([] ∷ map single basic_codes) b k [])
 
 -- A sheet that was opened on so many rows of each kind, and on which the calls were made.
 module _ (types fields : ℕ) (cs : List Call) (s₀ s : Sheet) (old new : List (Result ℕ Refusal)) (o : Opened types fields s₀.types s₀.fields) (r : Ran cs s₀ s old new) where

@@ -37,6 +37,7 @@ pub fn make_all(sheet: &mut Sheet, calls: &[Call], answers: &mut [Result<u16, Re
 {
     for (i, call) in calls.iter().enumerate() {
         let answer = make(sheet, call);
+        // By index, since nothing is said of what a slice holds after `get_mut`.
         if i < answers.len() {
             answers[i] = answer;
         }

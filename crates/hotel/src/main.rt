@@ -2,13 +2,15 @@
 // account is printed.
 #![tactic(auto)]
 
+use answers::Answer;
 use grammar::error::Refusal;
 use history::account::Account;
 use history::calls::Call;
 use history::replay::replay;
+use printing::printing::Printed;
 use sheet::row::{FieldRow, TypeRow};
-use std::io;
 use std::str::from_utf8;
+use std::{fmt, io};
 use writers::writer::{BufferWriter, MatchingWriter};
 
 // The numbers of basic types.
@@ -50,49 +52,37 @@ const DAY: [Call<'static>; 14] = [
     Call::Structure(&[]),
 ];
 
-fn show_call(rt: &HostRuntime, call: &Call) -> io::Result<()> {
-    match call {
-        Call::FromBytes(text) => {
-            let text = from_utf8(text).unwrap_or("");
-            print!(rt; "read {text}")
-        }
-        Call::Array(child) => print!(rt; "array of {child}"),
-        Call::Dict(key, value) => print!(rt; "dictionary of {key} and {value}"),
-        Call::Structure(fields) => {
-            print!(rt; "structure of")?;
-            for n in fields.iter() {
-                print!(rt; " {n}")?;
+// A call as the account names it.
+#[derive(Drop)]
+struct Asked<'a>(&'a Call<'a>);
+
+impl<'a> fmt::Display for Asked<'a> {
+    fn fmt<W: fmt::Write>(&self, f: &mut fmt::Formatter<W>) -> fmt::Result {
+        match self.0 {
+            Call::FromBytes(text) => write!(f, "read {}", from_utf8(text).unwrap_or("")),
+            Call::Array(child) => write!(f, "array of {child}"),
+            Call::Dict(key, value) => write!(f, "dictionary of {key} and {value}"),
+            Call::Structure(fields) => {
+                write!(f, "structure of")?;
+                for n in fields.iter() {
+                    write!(f, " {n}")?;
+                }
+                Ok(())
             }
-            Ok(())
+            Call::Maybe(child) => write!(f, "maybe of {child}"),
         }
-        Call::Maybe(child) => print!(rt; "maybe of {child}"),
     }
 }
 
-fn show_answer(rt: &HostRuntime, answer: &Result<u16, Refusal>) -> io::Result<()> {
-    match answer {
-        Ok(number) => println!(rt; ": {number}"),
-        Err(refusal) => println!(rt; ": no {refusal}"),
-    }
-}
+// What is said of a number: its printed form, as far as it was taken, and its figures.
+#[derive(Drop)]
+struct Entry(Account);
 
-fn show_account(rt: &HostRuntime, n: u16, account: &Result<Account, Refusal>) -> io::Result<()> {
-    match account {
-        Ok(account) => {
-            let taken = account.printed.taken;
-            let all = account.printed.all;
-            let length = account.figures.length;
-            let dbus = account.figures.dbus;
-            let gvariant = account.figures.gvariant;
-            let fixed = account.figures.fixed;
-            let maybe = account.figures.maybe;
-            let structures = account.figures.structures;
-            let arrays = account.figures.arrays;
-            println!(rt;
-                "{n}: {taken} bytes taken, all {all}; length {length}, alignment {dbus} {gvariant}, fixed {fixed}, maybe {maybe}, depths {structures} {arrays}"
-            )
-        }
-        Err(refusal) => println!(rt; "{n}: no {refusal}"),
+impl fmt::Display for Entry {
+    fn fmt<W: fmt::Write>(&self, f: &mut fmt::Formatter<W>) -> fmt::Result {
+        let Account { printed, figures } = self.0;
+        let Printed { taken, all } = printed;
+        write!(f, "{taken} bytes taken, all {all}; {figures}")
     }
 }
 
@@ -113,12 +103,11 @@ fn main(rt: HostRuntime) -> io::Result<()> {
         SHIFTS,
         &mut typed,
     );
-    for (i, call) in DAY.iter().enumerate() {
-        show_call(&rt, call)?;
-        show_answer(&rt, &answers[i])?;
+    for (call, answer) in DAY.iter().zip(answers) {
+        println!(rt; "{}: {}", Asked(call), Answer(answer))?;
     }
-    show_account(&rt, WAGE, &history.first)?;
-    show_account(&rt, SHIFTS, &history.second)?;
+    println!(rt; "{WAGE}: {}", Answer(history.first.map(Entry)))?;
+    println!(rt; "{SHIFTS}: {}", Answer(history.second.map(Entry)))?;
     let (type_rows, field_rows) = history.sheet.counts();
     println!(rt; "rows in use: {type_rows} of types, {field_rows} of fields")?;
     let text = from_utf8(&form).unwrap_or("");

@@ -1,3 +1,3 @@
-pub mod Lines
 pub mod Reply
 pub mod Filing
+pub mod Replies

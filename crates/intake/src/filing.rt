@@ -7,12 +7,10 @@ ghost use Rattle.intake.specs.Filing.{number_in, Told};
 
 use crate::filed::Filed;
 use grammar::error::Refusal;
+pub use grammar::limits::LONGEST_FORM;
 use history::account::figures_of;
 use printing::printing::to_string;
 use sheet::sheet::Sheet;
-
-// How many bytes a printed form may have.
-pub const LONGEST_FORM: usize = 65_535;
 
 // The printed form of `n`, which has `size` bytes, at the front of `form`.
 fn form_of<'a>(sheet: &mut Sheet, n: u16, size: u16, form: &'a mut [u8; LONGEST_FORM]) -> &'a [u8]
@@ -21,10 +19,8 @@ fn form_of<'a>(sheet: &mut Sheet, n: u16, size: u16, form: &'a mut [u8; LONGEST_
     ensures same { sheet.new ≡ sheet.old }
     ensures form { result.now ≡ text_of (book_in sheet.old) n }
 {
-    match to_string(sheet, n, form) {
-        Ok(count) => &form[0..count],
-        Err(_) => &form[0..0],
-    }
+    let count = to_string(sheet, n, form).unwrap();
+    &form[0..count]
 }
 
 // The number of the line's shape and its figures; its printed form goes to the front of `form`.

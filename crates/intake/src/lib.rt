@@ -3,5 +3,6 @@
 
 pub mod filed;
 pub mod filing;
-pub mod input;
-pub mod lines;
+pub mod replies;
+
+pub use textlines::{input, lines};

@@ -81,7 +81,7 @@ fn fill(sheet: &mut Sheet, n: u16, span: Range<usize>, buffer: &mut [u8]) -> Res
     ensures answer { outcome result ≡ filling (bytes_in span (text_of (book_in sheet.old) n)) (length buffer.old) }
     ensures after { buffer.new ≡ into_after (outcome result) (bytes_in span (text_of (book_in sheet.old) n)) buffer.old }
 {
-    if buffer.len() < span.end - span.start {
+    if buffer.len() < span.len() {
         return Err(Refusal::ShortBuffer);
     }
     let mut w = BufferWriter::new(buffer);

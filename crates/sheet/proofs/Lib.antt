@@ -6,4 +6,3 @@ pub mod Summed
 pub mod Shown
 pub mod Texts
 pub mod FromText
-pub mod OnSheet

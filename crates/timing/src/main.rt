@@ -12,6 +12,8 @@ use sheet::row::{FieldRow, TypeRow};
 use sheet::sheet::Sheet;
 use std::env;
 use std::io::{BufRead, BufReader};
+use std::str::FromStr;
+use thiserror::Error;
 
 // How many rows of each kind the sheet has.
 const ROWS: usize = 8_192;
@@ -41,13 +43,22 @@ struct Line {
     number: u16,
 }
 
-fn job_of(name: &str) -> Option<Job> {
-    match name {
-        "new" => Some(Job::New),
-        "known" => Some(Job::Known),
-        "print" => Some(Job::Print),
-        "equal" => Some(Job::Equal),
-        _ => None,
+// A word names no job.
+#[derive(Debug, Drop, Error)]
+#[error("the jobs are new, known, print and equal")]
+struct NoSuchJob;
+
+impl FromStr for Job {
+    type Err = NoSuchJob;
+
+    fn from_str(name: &str) -> Result<Job, NoSuchJob> {
+        match name {
+            "new" => Ok(Job::New),
+            "known" => Ok(Job::Known),
+            "print" => Ok(Job::Print),
+            "equal" => Ok(Job::Equal),
+            _ => Err(NoSuchJob),
+        }
     }
 }
 
@@ -64,46 +75,54 @@ fn print(sheet: &mut Sheet, form: &mut [u8; LONGEST_FORM], number: u16) -> u16 {
     (length.min(LONGEST_FORM) as u16).wrapping_add(u16::from(form[0]))
 }
 
-// Reads each line on a fresh sheet, so many times.
-fn repeat_new(times: u32, lines: &[Line]) -> u64 {
-    let mut types = [TypeRow::BLANK; FRESH];
-    let mut fields = [FieldRow::BLANK; FRESH];
+// Does the work with each line, so many times, and adds up the answers.
+fn repeat<F: FnMut(&Line) -> u16>(times: u32, lines: &[Line], mut work: F) -> u64
+    requires { F.IsAlwaysCallable work }
+{
     let mut sum = 0u64;
     for _ in 0..times {
         for line in lines {
-            let answer = read_new(&mut types, &mut fields, line.text.as_bytes());
-            sum = sum.wrapping_add(u64::from(answer));
+            sum = sum.wrapping_add(u64::from(work(line)));
         }
     }
     sum
 }
 
-// Does another job with each line, so many times.
-fn repeat(job: Job, times: u32, sheet: &mut Sheet, lines: &[Line]) -> u64 {
-    let mut form = [0; LONGEST_FORM];
-    let mut sum = 0u64;
-    for _ in 0..times {
-        for line in lines {
-            let text = line.text.as_bytes();
-            let answer = match job {
-                Job::Print => print(sheet, &mut form, line.number),
-                Job::Equal => u16::from(eq_text(sheet, line.number, text).unwrap_or(false)),
-                _ => sheet.from_bytes(text).unwrap_or(0),
-            };
-            sum = sum.wrapping_add(u64::from(answer));
+// Does the job with each line, so many times, and adds up the answers.
+fn repeat_job(job: Job, times: u32, sheet: &mut Sheet, lines: &[Line]) -> u64 {
+    match job {
+        Job::New => {
+            let mut types = [TypeRow::BLANK; FRESH];
+            let mut fields = [FieldRow::BLANK; FRESH];
+            repeat(
+                times,
+                lines,
+                |line| read_new(&mut types, &mut fields, line.text.as_bytes()),
+            )
         }
+        Job::Known => repeat(
+            times,
+            lines,
+            |line| sheet.from_bytes(line.text.as_bytes()).unwrap_or(0),
+        ),
+        Job::Print => {
+            let mut form = [0; LONGEST_FORM];
+            repeat(times, lines, |line| print(sheet, &mut form, line.number))
+        }
+        Job::Equal => repeat(
+            times,
+            lines,
+            |line| u16::from(eq_text(sheet, line.number, line.text.as_bytes()).unwrap_or(false)),
+        ),
     }
-    sum
 }
 
-fn run(rt: &HostRuntime) -> anyhow::Result<()> {
-    let mut args = env::args(rt)?.skip(1);
+fn main(rt: HostRuntime) -> anyhow::Result<()> {
+    let mut args = env::args(&rt)?.skip(1);
     let (Some(name), Some(times)) = (args.next(), args.next()) else {
         return Err(anyhow!("usage: timing JOB TIMES"));
     };
-    let Some(job) = job_of(name.as_str()) else {
-        return Err(anyhow!("the jobs are new, known, print and equal"));
-    };
+    let job = name.as_str().parse::<Job>()?;
     let times = times.as_str().parse::<u32>()?;
     let mut types = [TypeRow::BLANK; ROWS];
     let mut fields = [FieldRow::BLANK; ROWS];
@@ -118,16 +137,9 @@ fn run(rt: &HostRuntime) -> anyhow::Result<()> {
         let number = sheet.from_bytes(text.as_bytes()).unwrap_or(0);
         lines.push(Line { text, number })?;
     }
-    let sum = match job {
-        Job::New => repeat_new(times, lines.as_slice()),
-        _ => repeat(job, times, &mut sheet, lines.as_slice()),
-    };
+    let sum = repeat_job(job, times, &mut sheet, lines.as_slice());
     let count = lines.len();
     let (types, fields) = sheet.counts();
     println!(rt; "{name}: {count} lines, {types} type rows, {fields} field rows, sum {sum}")?;
     Ok(())
-}
-
-fn main(rt: HostRuntime) -> anyhow::Result<()> {
-    run(&rt)
 }

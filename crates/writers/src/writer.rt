@@ -14,6 +14,7 @@ pub trait Writer {
 // Takes bytes into a buffer while it has free places.
 #[derive(Drop)]
 pub struct BufferWriter<'a> {
+    // The whole buffer: the bytes taken are its front.
     buffer: &'a mut [u8],
     count: usize,
 }
@@ -35,6 +36,7 @@ impl<'a> Writer for BufferWriter<'a> {
         if self.count >= self.buffer.len() {
             return false;
         }
+        // By index, since nothing is said of what a slice holds after `get_mut`.
         self.buffer[self.count] = b;
         self.count += 1;
         true
@@ -44,6 +46,7 @@ impl<'a> Writer for BufferWriter<'a> {
 // Takes only the next byte of a text.
 #[derive(Drop)]
 pub struct MatchingWriter<'a> {
+    // The whole text: the bytes taken are its front.
     text: &'a [u8],
     count: usize,
 }

@@ -1,7 +1,7 @@
 use Rattle.std.proofs.Common.{Err, refl, ap, ◌∙◌, arith}
 use Rattle.std.proofs.lemmas.Result.{err_from_is_err_and}
 use Rattle.building.proofs.InRow.{wrap_start, wrap_on, wrap_stopped, wrap_end}
-use Rattle.building.proofs.Shifts.{goes_still, goes_on, says_at}
+use Rattle.building.proofs.Shifts.{goes_still, goes_on}
 use Rattle.building.proofs.entering.wrap.Goals as goal
 
 pub loop-i-init : goal.loop-i-init
@@ -12,7 +12,7 @@ loop-i-preserved g c =
     let i = c.loop-i.invariant in
     let m = c.in_ok-n.ensures in (
       goes_on i.0 m.grew,
-      wrap_on _ _ _ _ _ _ _ _ c.loop-i-test.true i.1 _ (says_at i.0.limits m.says),
+      wrap_on _ _ _ _ _ _ _ _ c.loop-i-test.true i.1 _ (rw i.0.limits at m.says),
     )
 
 pub returns-in_err-n : goal.returns-in_err-n
@@ -22,7 +22,7 @@ returns-in_err-n g c =
     let m = c.in_err-n.ensures in
     record {
       grew = goes_on i.0 m.grew;
-      wraps = wrap_stopped _ _ _ _ _ _ _ _ c.loop-i-test.true i.1 _ _ _ (says_at i.0.limits m.says) (p.1 ∙ ap Err p.2);
+      wraps = wrap_stopped _ _ _ _ _ _ _ _ c.loop-i-test.true i.1 _ _ _ (rw i.0.limits at m.says) (p.1 ∙ ap Err p.2);
     }
 
 pub returns : goal.returns

@@ -1,6 +1,4 @@
-use Rattle.std.proofs.Common.{◌∙◌, subst, arith}
-use Rattle.sheet.specs.declared.sheet.Sheet.{Sheet}
-use Rattle.forms.specs.Steps.{FieldHere}
+use Rattle.std.proofs.Common.{◌∙◌, arith}
 use Rattle.forms.proofs.Texts.{long_as}
 use Rattle.forms.proofs.Leading.{onto, in_part, past_part}
 use Rattle.forms.proofs.bytes.fields_step.Goals as goal

@@ -1,4 +1,4 @@
-use Rattle.std.proofs.Common.{◌≡◌, ◌+◌, ◌-◌, ◌*◌, ◌≤◌, ◌++◌, List, ℕ, length, take, drop}
+use Rattle.std.proofs.Common.{◌≡◌, ◌+◌, ◌-◌, ◌*◌, ◌≤◌, ◌++◌, List, ℕ, length}
 use Rattle.building.specs.Building.{Goes}
 use Rattle.building.proofs.InRow.{Fielding}
 use Rattle.building.proofs.entering.Builder.+bare_signature_many_signature.Given as goal

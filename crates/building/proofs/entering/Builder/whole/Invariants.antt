@@ -1,4 +1,4 @@
-use Rattle.std.proofs.Common.{◌≡◌, ◌+◌, ◌-◌, ◌≤◌, length, take}
+use Rattle.std.proofs.Common.{◌≡◌, ◌-◌, length}
 use Rattle.building.specs.Building.{Goes}
 use Rattle.building.proofs.InRow.{Wholing}
 use Rattle.building.proofs.entering.Builder.whole.Given as goal
