@@ -1,5 +1,5 @@
 -- A book whose parts stand before their wholes, and that holds nothing twice, stands for different texts.
-use Rattle.std.proofs.Common.{ℕ, List, [], ◌∷◌, ◌++◌, map, length, sym, refl, ap, ◌∙◌, subst, inl, inr, append_assoc, append-nil}
+use Rattle.std.proofs.Common.{List, [], ◌∷◌, ◌++◌, map, length, ap, ◌∙◌, append_assoc, append-nil, arith}
 use Rattle.std.proofs.lemmas.List.{length_push}
 use Rattle.grammar.specs.Lists.{In, Distinct}
 use Rattle.grammar.specs.Shape.{Shape, printed}
@@ -11,17 +11,13 @@ use Rattle.book.proofs.Sound.{Sound, pushed, start}
 
 distinct_mid : {A : Type 0} (pre : List A) (x : A) (xs : List A) → Distinct (pre ++ x ∷ xs) → In x pre → ⊥
 distinct_mid [] x xs d i = i
-distinct_mid {A} (y ∷ pre) x xs d (inl e) = d.0 (subst (λ (z : A). In z (pre ++ x ∷ xs)) (sym e) (in_right x pre (x ∷ xs) (inl refl)))
-distinct_mid (y ∷ pre) x xs d (inr i) = distinct_mid pre x xs d.1 i
+distinct_mid (y ∷ pre) x xs d i = grind (arith, distinct_mid pre x xs, in_right x pre (x ∷ xs))
 
 folded : (xs pre : List Node) (acc : List Shape) → Sound pre acc → Chain (length acc) xs → Distinct (pre ++ xs) → Sound (pre ++ xs) (shapes_from acc xs)
-folded [] pre acc g c d = subst (λ (z : List Node). Sound z acc) (sym (append-nil pre)) g
+folded [] pre acc g c d = rw append-nil g
 folded (x ∷ xs) pre acc g c d =
     let s : Shape = node_shape acc x in
-    subst (λ (z : List Node). Sound z (shapes_from (acc ++ s ∷ []) xs)) (append_assoc pre (x ∷ []) xs)
-    (folded xs (pre ++ x ∷ []) (acc ++ s ∷ []) (pushed pre acc g x c.0 (distinct_mid pre x xs d))
-    (subst (λ (m : ℕ). Chain m xs) (sym (length_push acc s)) c.1)
-    (subst Distinct (sym (append_assoc pre (x ∷ []) xs)) d))
+    rw (← append_assoc pre (x ∷ []) xs) (folded xs (pre ++ x ∷ []) (acc ++ s ∷ []) (pushed pre acc g x c.0 (distinct_mid pre x xs d)) (rw (length_push acc s) c.1) (rw append_assoc d))
 
 pub good_sound : (ns : List Node) → Good ns → Sound ns (shapes_from [] ns)
 good_sound ns g = folded ns [] [] start g.chain g.once

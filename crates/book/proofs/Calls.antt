@@ -1,10 +1,10 @@
 -- A call of the book over numbers answers as the plain book does.
-use Rattle.std.proofs.Common.{◌≡◌, ℕ, ◌+◌, ◌-◌, Bool, true, false, cond, eqb, ltb, ◌⊎◌, List, [], ◌∷◌, ◌++◌, map, length, sym, refl, ap, ◌∙◌, subst, ap₂, inl, inr, true≢false, append_assoc, append-nil, arith}
-use mathlib.Core.List.{map-append}
+use Rattle.std.proofs.Common.{◌≡◌, ℕ, ◌+◌, ◌-◌, ◌≤◌, eqb, ltb, ◌⊎◌, List, [], ◌∷◌, ◌++◌, map, length, sym, refl, ap, ◌∙◌, subst, ap₂, inl, inr, append-nil, arith}
 use mathlib.Core.Option.{Option, none, some}
 use lib.ListN.{length-map}
-use Rattle.std.proofs.lemmas.Bool.{ltb-false, eqb-false}
-use Rattle.grammar.specs.Lists.{In, place, add, add_all}
+use Rattle.std.proofs.lemmas.List.{map_push}
+use Rattle.std.proofs.lemmas.Bool.Decides.{nat_tests}
+use Rattle.grammar.specs.Lists.{In, place, add}
 use Rattle.grammar.specs.Shape.{Text, Shape, Shapes, nil, more, printed, printed_all}
 use Rattle.grammar.specs.declared.figures.Figures.{Figures}
 use Rattle.grammar.specs.declared.error.Fault.{Fault}
@@ -17,8 +17,9 @@ use Rattle.book.specs.Plain
 use Rattle.book.specs.Agree.{EachRunAgrees}
 use Rattle.book.specs.Nodes.{Node, array, maybe, dict, structure, same_node, enter, intern, size_of, node_figures, intern_text, size_call, basics, byte, shape_at, shapes_at, node_shape, Part, Parts, Known}
 use Rattle.book.specs.Nodes
+use Rattle.grammar.proofs.Prefix.{bare}
 use Rattle.grammar.proofs.ReadBack.{reading_printed, read_all_printed, reading_empty}
-use Rattle.book.proofs.Lists.{in_get_d, All, add_all_old, add_all_append}
+use Rattle.book.proofs.Lists.{in_get_d, add_all_old, add_all_append, map_in}
 use Rattle.book.proofs.NodeShapes.{same_texts, basics_long}
 use Rattle.book.proofs.Figured.{node_figures_are}
 use Rattle.book.proofs.Sound.{Sound, as_many, inner, inner_is, inner_in, in_map, start}
@@ -26,31 +27,21 @@ use Rattle.book.proofs.Interned.{entered, interned, text_is, number_is, known_is
 use Rattle.book.proofs.Tails.{tails_count}
 
 -- what the refusals that do not apply say
-else_none : (a b : Refusing) → (a else b) ≡ none → (a ≡ none) × (b ≡ none)
-else_none none b e = (refl, e)
-else_none (some r) b e = absurd (true≢false cc)
+pub else_none : (a b : Refusing) → (a else b) ≡ none → (a ≡ none) × (b ≡ none)
+else_none a b e = grind arith
+
+pub late_none : (limits : Limits) (need : Needed) → late limits need ≡ none → (need.types ≤ limits.types) × (need.fields ≤ limits.fields)
+late_none limits need e = grind (arith, nat_tests)
 
 at_none : (k : ℕ) (o : Option ℕ) → at k o ≡ none → o ≡ none
-at_none k none e = refl
-at_none k (some i) e = absurd (true≢false cc)
+at_none k o e = grind arith
 
 by_none : (o : Option Fault) → by o ≡ none → o ≡ none
-by_none none e = refl
-by_none (some f) e = absurd (true≢false cc)
+by_none o e = grind arith
 
-first_none : (p : ℕ → Bool) (ns : List ℕ) → first_at p ns ≡ none → All (λ n. p n ≡ false) ns
-first_none p [] e = tt
-first_none p (n ∷ ns) e = go (first_none p ns) (p n) refl (first_at p ns) refl e
-  where
-    go : (first_at p ns ≡ none → All (λ n. p n ≡ false) ns) → (b : Bool) → p n ≡ b → (o : Option ℕ) → first_at p ns ≡ o → cond b (some 0) (next o) ≡ none → All (λ n. p n ≡ false) (n ∷ ns)
-    go ih true q none f e = let z : ◌≡◌ {A = Option ℕ} (some 0) none = e in absurd (true≢false cc)
-    go ih true q (some i) f e = let z : ◌≡◌ {A = Option ℕ} (some 0) none = e in absurd (true≢false cc)
-    go ih false q none f e = (q, ih f)
-    go ih false q (some i) f e = let z : ◌≡◌ {A = Option ℕ} (some (i + 1)) none = e in absurd (true≢false cc)
-
-all_parts : (m : ℕ) (ns : List ℕ) → All (λ n. ltb (14 + m) n ≡ false) ns → All (λ n. eqb n 0 ≡ false) ns → Parts m ns
+all_parts : (m : ℕ) (ns : List ℕ) → first_at (λ n. ltb (14 + m) n) ns ≡ none → first_at (λ n. eqb n 0) ns ≡ none → Parts m ns
 all_parts m [] a b = tt
-all_parts m (n ∷ ns) a b = let p = ltb-false (14 + m) n a.0 in let q = eqb-false n 0 b.0 in (omega arith, all_parts m ns a.1 b.1)
+all_parts m (n ∷ ns) a b = grind (arith, nat_tests, all_parts m ns)
 
 record Fair (m : ℕ) (c : Call) : Type 0 where
   valid : invalid_text c ≡ none
@@ -65,7 +56,7 @@ fair m c e =
     let f = else_none (at 4 (first_at (λ n. eqb n 0) (parts c))) _ d.1 in
     record {
       valid = b.0;
-      known = all_parts m (parts c) (first_none (λ n. ltb (14 + m) n) (parts c) (at_none 3 _ d.0)) (first_none (λ n. eqb n 0) (parts c) (at_none 4 _ f.0));
+      known = all_parts m (parts c) (at_none 3 _ d.0) (at_none 4 _ f.0);
       filled = f.1;
     }
 
@@ -81,32 +72,29 @@ pub record Same (ns : List Node) (ss : List Shape) (r : ℕ × List Node) (size 
 grown_node : (ns : List Node) (ss : List Shape) → Sound ns ss → (x : Node) → Known (length ss) x
     → grown (map printed ss) (printed (node_shape ss x)) ≡ add same_text (map printed ss) (printed (node_shape ss x))
 grown_node ns ss g x k =
-    ap (λ (o : Option Shape). add_all same_text (map printed ss) (containers_of o)) (reading_printed (node_shape ss x))
-    ∙ ap (λ (z : List Shape). add_all same_text (map printed ss) (map printed z)) (inner_is ss x k)
-    ∙ ap (add_all same_text (map printed ss)) (map-append printed (inner (node_shape ss x)) (node_shape ss x ∷ []))
-    ∙ add_all_append same_texts (map printed ss) (map printed (inner (node_shape ss x))) (printed (node_shape ss x) ∷ [])
-    ∙ ap (λ (z : List Text). add same_text z (printed (node_shape ss x))) (add_all_old same_texts (map printed ss) (map printed (inner (node_shape ss x))) (inside (inner (node_shape ss x)) (inner_in ss g.closed x k)))
-  where
-    inside : (cs : List Shape) → ((c : Shape) → In c cs → In c ss) → (w : Text) → In w (map printed cs) → In w (map printed ss)
-    inside [] h w i = absurd i
-    inside (c ∷ cs) h w (inl e) = subst (λ (z : Text). In z (map printed ss)) e (in_map printed c ss (h c (inl refl)))
-    inside (c ∷ cs) h w (inr i) = inside cs (λ d j. h d (inr j)) w i
+    rw (
+      reading_printed (node_shape ss x),
+      inner_is ss x k,
+      map_push printed (inner (node_shape ss x)) (node_shape ss x),
+      add_all_append same_texts (map printed ss) (map printed (inner (node_shape ss x))) (printed (node_shape ss x) ∷ []),
+      add_all_old same_texts (map printed ss) (map printed (inner (node_shape ss x))) (λ w i. let p = map_in printed w (inner (node_shape ss x)) i in rw (← p.2) (in_map printed p.0 ss (inner_in ss g.closed x k p.0 p.1))),
+    )
 
 written_at : (ss : List Shape) (n : ℕ) (s : Shape) → Part (length ss) n → shape_at ss n ≡ s → In (printed s) (known (map printed ss))
-written_at ss n s p e = subst (λ (z : List Text). In (printed s) z) (sym (known_is ss)) (inr (in_map printed s (basics ++ ss) (subst (λ (z : Shape). In z (basics ++ ss)) e (in_get_d (basics ++ ss) (n - 1) byte (omega (arith, basics_long ss))))))
+written_at ss n s p e = subst (λ (z : List Text). In (printed s) z) (sym (known_is ss)) (inr (in_map printed s (basics ++ ss) (rw e at (in_get_d (basics ++ ss) (n - 1) byte (omega (arith, basics_long ss))))))
 
 same_node_is : (ns : List Node) (ss : List Shape) → Sound ns ss → (x : Node) → Known (length ss) x → (w : Text) → w ≡ printed (node_shape ss x)
     → Same ns ss (enter ns x) (size_of ns x) w
 same_node_is ns ss g x k w e =
     let m = entered ns ss g x k in
-    record {
+    rw e (record {
       new = m.new;
       sound = m.sound;
-      texts = m.texts ∙ sym (grown_node ns ss g x k) ∙ ap (grown (map printed ss)) (sym e);
-      answer = sym (number_is m.new m.sound.apart (15 + place same_node ns x) (node_shape ss x) m.part m.is) ∙ ap (number_of (map printed m.new)) (sym e);
-      written = subst (λ (z : Text). In z (known (map printed m.new))) (sym e) (written_at m.new (15 + place same_node ns x) (node_shape ss x) m.part m.is);
-      length = ap (λ (z : List Figures). (node_figures z x).length) g.figures ∙ ap (λ (f : Figures). f.length) (node_figures_are ss x k) ∙ ap length (sym e);
-    }
+      texts = m.texts ∙ sym (grown_node ns ss g x k);
+      answer = sym (number_is m.new m.sound.apart (15 + place same_node ns x) (node_shape ss x) m.part m.is);
+      written = written_at m.new (15 + place same_node ns x) (node_shape ss x) m.part m.is;
+      length = ap (λ (z : List Figures). (node_figures z x).length) g.figures ∙ ap (λ (f : Figures). f.length) (node_figures_are ss x k);
+    })
 
 same_tree : (ns : List Node) (ss : List Shape) → Sound ns ss → (w : Text) → (w ≡ []) ⊎ ((s : Shape) × (w ≡ printed s))
     → Same ns ss (intern_text ns (reading w)) (length w) w
@@ -130,7 +118,7 @@ texts_are ss (n ∷ ns) p = ap₂ ◌++◌ (text_is ss n p.0) (texts_are ss ns p
 whole_tree : (ts : Shapes) (w : Text) → w ≡ printed_all ts → (enclosed (read_all w) w ≡ []) ⊎ ((s : Shape) × (enclosed (read_all w) w ≡ printed s))
 whole_tree nil w e = inl (rw e (rw (read_all_printed nil)))
 whole_tree (more t nil) w e = inr (t, rw e (rw (read_all_printed (more t nil)) (append-nil (printed t))))
-whole_tree (more t (more u ts)) w e = inr (Shape.structure t (more u ts), rw e (rw (read_all_printed (more t (more u ts))) (ap (λ (z : Text). 40 ∷ z) (append_assoc (printed t) (printed_all (more u ts)) (41 ∷ [])))))
+whole_tree (more t (more u ts)) w e = inr (Shape.structure t (more u ts), rw e (rw (read_all_printed (more t (more u ts))) (sym (bare t (more u ts)))))
 
 same_call : (ns : List Node) (ss : List Shape) → Sound ns ss → (c : Call) → Fair (length ss) c
     → Same ns ss (Nodes.grown ns c) (size_call ns c) (whole_text (map printed ss) c)
@@ -140,17 +128,30 @@ same_call ns ss g (Plain.maybe n) f = same_node_is ns ss g (maybe n) f.known.0 _
 same_call ns ss g (Plain.dict a b) f =
     same_node_is ns ss g (dict a b) (f.known.0, f.known.1.0) _
     (ap₂ (λ (y z : Text). 97 ∷ 123 ∷ (y ++ (z ++ 125 ∷ []))) (text_is ss a f.known.0) (text_is ss b f.known.1.0))
-same_call ns ss g (Plain.structure []) f = let z = f.filled in absurd (true≢false cc)
+same_call ns ss g (Plain.structure []) f = cc f.filled
 same_call ns ss g (Plain.structure (n ∷ fs)) f =
     same_node_is ns ss g (structure (n ∷ fs)) f.known _
-    (ap (λ (z : Text). 40 ∷ (z ++ 41 ∷ [])) (texts_are ss (n ∷ fs) f.known) ∙ ap (λ (z : Text). 40 ∷ z) (append_assoc (printed (shape_at ss n)) (printed_all (shapes_at ss fs)) (41 ∷ [])))
+    (ap (λ (z : Text). 40 ∷ (z ++ 41 ∷ [])) (texts_are ss (n ∷ fs) f.known) ∙ sym (bare (shape_at ss n) (shapes_at ss fs)))
 
--- One call.
-pub record Step (r : Answer × List Node) (b : Answer × List Text) : Type 0 where
+-- What the plain book does, where a book over numbers stands for it.
+pub record Taken (b : List Text) (w : Text) (r : Answer × List Text) : Type 0 where
+  pub book : r.1 ≡ grown b w
+  pub answer : r.0 ≡ accepted (number_of r.1 w)
+  pub written : In w (known r.1)
+
+pub record Left (b : List Text) (r : Answer × List Text) : Type 0 where
+  pub number : ℕ
+  pub values : List ℕ
+  pub book : r.1 ≡ b
+  pub answer : r.0 ≡ refused number values
+
+-- One call, on nodes and on the texts b, of which w is the whole text.
+pub record Step (b : List Text) (w : Text) (r : Answer × List Node) (p : Answer × List Text) : Type 0 where
   pub new : List Shape
   pub sound : Sound r.1 new
-  pub texts : map printed new ≡ b.1
-  pub answer : r.0 ≡ b.0
+  pub texts : map printed new ≡ p.1
+  pub answer : r.0 ≡ p.0
+  pub told : Left b p ⊎ Taken b w p
 
 longs : (ns : List Node) (ss : List Shape) → Sound ns ss → length ns ≡ length (map printed ss)
 longs ns ss g = as_many ns ss g ∙ sym (length-map ss printed)
@@ -163,56 +164,32 @@ needed_same ns ss c w m = λ i. record {
 }
 
 pub simulates : (limits : Limits) (ns : List Node) (ss : List Shape) → Sound ns ss → (c : Call)
-    → Step (Nodes.call limits ns c) (call limits (map printed ss) c)
+    → Step (map printed ss) (whole_text (map printed ss) c) (Nodes.call limits ns c) (call limits (map printed ss) c)
 unfolding Nodes.call call
-simulates limits ns ss g c = go (early c (length ns)) refl
+simulates limits ns ss g c = rw (← longs ns ss g) (go (early c (length ns)) refl)
   where
-    l : length ns ≡ length (map printed ss)
-    l = longs ns ss g
+    b : List Text
+    b = map printed ss
+
+    w : Text
+    w = whole_text b c
 
     go : (o : Refusing) → early c (length ns) ≡ o
-        → Step (Nodes.answered ns (Nodes.grown ns c) (early c (length ns) else late limits (Nodes.needed ns c)))
-        (answered (map printed ss) (whole_text (map printed ss) c) (early c (length (map printed ss)) else late limits (needed (map printed ss) (whole_text (map printed ss) c))))
-    go (some e) h = rw (← l) (rw h (record { new = ss; sound = g; texts = refl; answer = refl }))
+        → Step b w (Nodes.answered ns (Nodes.grown ns c) (early c (length ns) else late limits (Nodes.needed ns c))) (answered b w (early c (length ns) else late limits (needed b w)))
+    go (some e) h = rw h (record { new = ss; sound = g; texts = refl; answer = refl; told = inl (record { number = e.0; values = e.1; book = refl; answer = refl }) })
     go none h =
-        let m = same_call ns ss g c (fair (length ss) c (ap (early c) (sym (l ∙ length-map ss printed)) ∙ h)) in
-        rw (← l) (rw h (subst (λ (f : Needed). Step (Nodes.answered ns (Nodes.grown ns c) (late limits f)) (answered (map printed ss) (whole_text (map printed ss) c) (late limits (needed (map printed ss) (whole_text (map printed ss) c)))))
-        (sym (needed_same ns ss c (whole_text (map printed ss) c) m)) (end m (late limits (needed (map printed ss) (whole_text (map printed ss) c))))))
+        let m = same_call ns ss g c (fair (length ss) c (ap (early c) (sym (as_many ns ss g)) ∙ h)) in
+        rw h (subst (λ (f : Needed). Step b w (Nodes.answered ns (Nodes.grown ns c) (late limits f)) (answered b w (late limits (needed b w)))) (sym (needed_same ns ss c w m)) (end m (late limits (needed b w))))
       where
-        end : Same ns ss (Nodes.grown ns c) (size_call ns c) (whole_text (map printed ss) c) → (o : Refusing)
-            → Step (Nodes.answered ns (Nodes.grown ns c) o) (answered (map printed ss) (whole_text (map printed ss) c) o)
-        end m (some e) = record { new = ss; sound = g; texts = refl; answer = refl }
-        end m none = record { new = m.new; sound = m.sound; texts = m.texts; answer = ap accepted (m.answer ∙ ap (λ (z : List Text). number_of z (whole_text (map printed ss) c)) m.texts) }
-
--- What the plain book does, where a book over numbers stands for it.
-pub record Taken (b : List Text) (w : Text) (r : Answer × List Text) : Type 0 where
-  pub book : r.1 ≡ grown b w
-  pub answer : r.0 ≡ accepted (number_of (grown b w) w)
-  pub written : In w (known (grown b w))
-
-pub record Left (b : List Text) (r : Answer × List Text) : Type 0 where
-  pub number : ℕ
-  pub values : List ℕ
-  pub book : r.1 ≡ b
-  pub answer : r.0 ≡ refused number values
-
-pub told : (limits : Limits) (ns : List Node) (ss : List Shape) → Sound ns ss → (c : Call)
-    → Left (map printed ss) (call limits (map printed ss) c) ⊎ Taken (map printed ss) (whole_text (map printed ss) c) (call limits (map printed ss) c)
-unfolding call
-told limits ns ss g c = go (early c (length (map printed ss))) refl
-  where
-    go : (o : Refusing) → early c (length (map printed ss)) ≡ o
-        → Left (map printed ss) (answered (map printed ss) (whole_text (map printed ss) c) (early c (length (map printed ss)) else late limits (needed (map printed ss) (whole_text (map printed ss) c))))
-        ⊎ Taken (map printed ss) (whole_text (map printed ss) c) (answered (map printed ss) (whole_text (map printed ss) c) (early c (length (map printed ss)) else late limits (needed (map printed ss) (whole_text (map printed ss) c))))
-    go (some e) h = rw h (inl (record { number = e.0; values = e.1; book = refl; answer = refl }))
-    go none h =
-        let m = same_call ns ss g c (fair (length ss) c (ap (early c) (sym (length-map ss printed)) ∙ h)) in
-        rw h (end m (late limits (needed (map printed ss) (whole_text (map printed ss) c))))
-      where
-        end : Same ns ss (Nodes.grown ns c) (size_call ns c) (whole_text (map printed ss) c) → (o : Refusing)
-            → Left (map printed ss) (answered (map printed ss) (whole_text (map printed ss) c) o) ⊎ Taken (map printed ss) (whole_text (map printed ss) c) (answered (map printed ss) (whole_text (map printed ss) c) o)
-        end m (some e) = inl (record { number = e.0; values = e.1; book = refl; answer = refl })
-        end m none = inr (record { book = refl; answer = refl; written = subst (λ (z : List Text). In (whole_text (map printed ss) c) (known z)) m.texts m.written })
+        end : Same ns ss (Nodes.grown ns c) (size_call ns c) w → (o : Refusing) → Step b w (Nodes.answered ns (Nodes.grown ns c) o) (answered b w o)
+        end m (some e) = record { new = ss; sound = g; texts = refl; answer = refl; told = inl (record { number = e.0; values = e.1; book = refl; answer = refl }) }
+        end m none = record {
+          new = m.new;
+          sound = m.sound;
+          texts = m.texts;
+          answer = ap accepted (m.answer ∙ ap (λ (z : List Text). number_of z w) m.texts);
+          told = inr (record { book = refl; answer = refl; written = subst (λ (z : List Text). In w (known z)) m.texts m.written });
+        }
 
 -- A whole run, from the empty books.
 pub record Runs (r : List Answer × List Node) (b : List Answer × List Text) : Type 0 where

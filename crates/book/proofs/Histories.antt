@@ -1,22 +1,23 @@
 -- What the plain book holds after any calls.
-use Rattle.std.proofs.Common.{◌≡◌, ℕ, ◌<◌, ◌≤◌, Bool, true, false, ◌||◌, ltb, ◌⊎◌, List, [], ◌∷◌, ◌++◌, map, length, sym, refl, ap, ◌∙◌, subst, ap₂, inl, inr, true≢false, arith, length-append}
-use mathlib.Core.Option.{Option, none, some}
-use Rattle.std.proofs.lemmas.Bool.{ltb-false, le-ltb}
+use Rattle.std.proofs.Common.{◌≡◌, ℕ, ◌<◌, ◌≤◌, ◌⊎◌, List, [], ◌∷◌, ◌++◌, map, length, sym, refl, ap, ◌∙◌, subst, inl, inr, arith, length-append}
+use mathlib.Core.Option.{none, some}
+use Rattle.std.proofs.lemmas.Bool.Decides.{nat_tests}
 use Rattle.grammar.specs.Lists.{In, Distinct, same_list, add_all, tails}
-use Rattle.grammar.specs.Shape.{Text, basic_codes, Shape, basic, array, maybe, dict, structure, printed}
+use Rattle.grammar.specs.Shape.{Text, basic_codes, Shape, basic, printed}
 use Rattle.grammar.specs.Parts.{containers, fields, Container, Within}
 use Rattle.grammar.specs.Read.{reading}
-use Rattle.grammar.specs.Refusals.{accepted, refused}
-use Rattle.grammar.proofs.ReadBack.{reading_printed, reading_empty, printed_inj}
-use Rattle.book.specs.Plain.{Call, Answer, Limits, Refusing, longest_form, same_text, single, known, text_of, number_of, whole_text, containers_of, fields_of, grown, tails_from, tails_of, when, ◌else◌, early, late, needed, answered, call, run}
+use Rattle.grammar.specs.Refusals.{accepted}
+use Rattle.grammar.proofs.ReadBack.{reading_printed, reading_empty}
+use Rattle.book.specs.Plain.{Call, Answer, Limits, Refusing, longest_form, same_text, single, known, text_of, number_of, whole_text, containers_of, fields_of, grown, tails_from, tails_of, ◌else◌, early, late, needed, answered, call, run}
 use Rattle.book.specs.Nodes.{basics}
 use Rattle.book.specs.History.{Result, ContainerText, Tail, AfterAnyCalls, OneMore, OneMoreCall}
-use Rattle.book.proofs.Lists.{Decides, same_lists, place_in, in_add_all, add_all_in, add_all_old, distinct_add_all, tail_in, in_tail, map_in}
+use Rattle.std.specs.List.{flat_map}
+use Rattle.book.proofs.Lists.{add_all_append, in_flat, flat_in, Decides, same_lists, place_in, in_add_all, add_all_in, add_all_old, distinct_add_all, tail_in, in_tail, map_in}
 use Rattle.book.proofs.NodeShapes.{same_texts}
 use Rattle.book.proofs.Sound.{start, in_map}
-use Rattle.book.proofs.Interned.{known_is, empty_not}
+use Rattle.book.proofs.Interned.{distinct_texts, known_apart}
 use Rattle.book.proofs.Within.{within, met}
-use Rattle.book.proofs.Calls.{Left, Taken}
+use Rattle.book.proofs.Calls.{else_none, late_none, Left, Taken}
 use Rattle.book.proofs.Backed.{Backed, known_shape, known_keeps, done, backed, longer_call, longer_run, stays, numbered}
 
 known_longer : (b r : List Text) → length (known b) ≤ length (known (b ++ r))
@@ -33,151 +34,117 @@ module _ (limits : Limits) where
   push_text a others b w r = record { shape = r.shape; result = push_result a others b r.shape r.result; container = r.container; text = r.text }
 
   -- what a text holds
-  holds : (s : Shape) (w : Text) → In w (containers_of (reading (printed s))) → (c : Shape) × Within c s × Container c × (w ≡ printed c)
-  holds s w i = let p = map_in printed w (containers s) (rw (reading_printed s) at i) in let q = within s p.0 p.1 in (p.0, q.0, q.1, sym p.2)
+  holds : (v w : Text) (s : Shape) → v ≡ printed s → In w (containers_of (reading v)) → (c : Shape) × Within c s × Container c × (w ≡ printed c)
+  holds v w s o i = let p = map_in printed w (containers s) (rw (o, reading_printed s) at i) in let q = within s p.0 p.1 in (p.0, q.0, q.1, sym p.2)
 
-  held : (s c : Shape) (w : Text) → Within c s → Container c → w ≡ printed c → In w (containers_of (reading (printed s)))
-  held s c w i k e = rw (reading_printed s) (subst (λ (z : Text). In z (map printed (containers s))) (sym e) (in_map printed c (containers s) (met i k)))
+  held : (v w : Text) (s c : Shape) → v ≡ printed s → Within c s → Container c → w ≡ printed c → In w (containers_of (reading v))
+  held v w s c o i k e = rw (o, reading_printed s, e) (in_map printed c (containers s) (met i k))
 
   pub only : (b : List Text) → Backed b → (cs : List Call) (w : Text) → In w (run limits b cs).1 → In w b ⊎ Held b cs w
   only b k [] w i = inl i
-  only b k (c ∷ cs) w i = go (only (call limits b c).1 (done limits b k c).1 cs w i) (done limits b k c).0
-    where
-      new : Taken b (whole_text b c) (call limits b c) → In w b ⊎ In w (containers_of (reading (whole_text b c))) → In w b ⊎ Held b (c ∷ cs) w
-      new t (inl j) = inl j
-      new t (inr j) = shape (known_shape (call limits b c).1 (done limits b k c).1 (whole_text b c) (subst (λ (z : List Text). In (whole_text b c) (known z)) (sym t.book) t.written))
-        where
-          shape : ([] ≡ whole_text b c) ⊎ ((s : Shape) × (printed s ≡ whole_text b c)) → In w b ⊎ Held b (c ∷ cs) w
-          shape (inl e) = absurd (subst (λ (o : Option Shape). In w (containers_of o)) reading_empty (subst (λ (z : Text). In w (containers_of (reading z))) (sym e) j))
-          shape (inr (s, e)) =
-              let h = holds s w (subst (λ (z : Text). In w (containers_of (reading z))) (sym e) j) in
+  only b k (c ∷ cs) w i = elim (only (call limits b c).1 (done limits b k c).1 cs w i) [
+    | inr r ↦ inr (push_text (call limits b c).0 (run limits (call limits b c).1 cs).0 _ w r)
+    | inl j ↦ elim (done limits b k c).0 [
+      | inl l ↦ inl (rw l.book at j)
+      | inr t ↦ elim (in_add_all same_texts b (containers_of (reading (whole_text b c))) w (rw t.book at j)) [
+        | inl h ↦ inl h
+        | inr h ↦ elim (known_shape (call limits b c).1 (done limits b k c).1 (whole_text b c) t.written) [
+          | inl e ↦ absurd (rw (← e, reading_empty) at h)
+          | inr (s, e) ↦ let p = holds (whole_text b c) w s (sym e) h in
               inr (record {
-                shape = h.0;
+                shape = p.0;
                 result = record {
                   number = number_of (call limits b c).1 (whole_text b c);
-                  given = inl (t.answer ∙ ap (λ (z : List Text). accepted (number_of z (whole_text b c))) (sym t.book));
+                  given = inl t.answer;
                   whole = s;
-                  text = numbered limits (call limits b c).1 (done limits b k c).1 (whole_text b c) (subst (λ (z : List Text). In (whole_text b c) (known z)) (sym t.book) t.written) cs ∙ sym e;
-                  within = h.1;
+                  text = numbered limits (call limits b c).1 (done limits b k c).1 (whole_text b c) t.written cs ∙ sym e;
+                  within = p.1;
                 };
-                container = h.2;
-                text = h.3;
+                container = p.2;
+                text = p.3;
               })
-
-      go : In w (call limits b c).1 ⊎ Held (call limits b c).1 cs w → Left b (call limits b c) ⊎ Taken b (whole_text b c) (call limits b c) → In w b ⊎ Held b (c ∷ cs) w
-      go (inr r) d = inr (push_text (call limits b c).0 (run limits (call limits b c).1 cs).0 _ w r)
-      go (inl j) (inl l) = inl (subst (λ (z : List Text). In w z) l.book j)
-      go (inl j) (inr t) = new t (in_add_all same_texts b (containers_of (reading (whole_text b c))) w (subst (λ (z : List Text). In w z) t.book j))
+        ]
+      ]
+    ]
+  ]
 
   pub every : (b : List Text) → Backed b → (cs : List Call) (w : Text) → Held b cs w → In w (run limits b cs).1
   every b k [] w r = absurd r.result.given
-  every b k (c ∷ cs) w r = go (every (call limits b c).1 (done limits b k c).1 cs w) r.result.given (done limits b k c).0
-    where
-      go : (Held (call limits b c).1 cs w → In w (run limits (call limits b c).1 cs).1)
-          → ((call limits b c).0 ≡ accepted r.result.number) ⊎ In (accepted r.result.number) (run limits (call limits b c).1 cs).0
-          → Left b (call limits b c) ⊎ Taken b (whole_text b c) (call limits b c) → In w (run limits b (c ∷ cs)).1
-      go ih (inr j) d = let p = r.result in ih (record { shape = r.shape; result = record { number = p.number; given = j; whole = p.whole; text = p.text; within = p.within }; container = r.container; text = r.text })
-      go ih (inl e) (inl l) = let z : refused l.number l.values ≡ accepted r.result.number = sym l.answer ∙ e in absurd (true≢false cc)
-      go ih (inl e) (inr t) =
-          let m : number_of (call limits b c).1 (whole_text b c) ≡ r.result.number = let z : accepted (number_of (grown b (whole_text b c)) (whole_text b c)) ≡ accepted r.result.number = sym t.answer ∙ e in ap (λ (z : List Text). number_of z (whole_text b c)) t.book ∙ cc in
-          let q : text_of (run limits b (c ∷ cs)).1 (number_of (call limits b c).1 (whole_text b c)) ≡ whole_text b c = numbered limits (call limits b c).1 (done limits b k c).1 (whole_text b c) (subst (λ (z : List Text). In (whole_text b c) (known z)) (sym t.book) t.written) cs in
-          let p : printed r.result.whole ≡ whole_text b c = sym r.result.text ∙ ap (text_of (run limits b (c ∷ cs)).1) (sym m) ∙ q in
-          let i : In w (containers_of (reading (whole_text b c))) = subst (λ (z : Text). In w (containers_of (reading z))) p (held r.result.whole r.shape w r.result.within r.container r.text) in
-          stays limits (call limits b c).1 (done limits b k c).1 cs w (subst (λ (z : List Text). In w z) (sym t.book) (add_all_in same_texts b (containers_of (reading (whole_text b c))) w (inr i)))
+  every b k (c ∷ cs) w r = let p = r.result in elim p.given [
+    | inr j ↦ every (call limits b c).1 (done limits b k c).1 cs w (record { shape = r.shape; result = record { number = p.number; given = j; whole = p.whole; text = p.text; within = p.within }; container = r.container; text = r.text })
+    | inl e ↦ elim (done limits b k c).0 [
+      | inl l ↦ cc l.answer
+      | inr t ↦
+          let m : number_of (call limits b c).1 (whole_text b c) ≡ p.number = cc t.answer in
+          let o : whole_text b c ≡ printed p.whole = cc (p.text, numbered limits (call limits b c).1 (done limits b k c).1 (whole_text b c) t.written cs) in
+          stays limits (call limits b c).1 (done limits b k c).1 cs w
+          (rw t.book (add_all_in same_texts b (containers_of (reading (whole_text b c))) w (inr (held (whole_text b c) w p.whole r.shape o p.within r.container r.text))))
+    ]
+  ]
 
   -- the numbers answered are the book's
   pub answered_known : (b : List Text) → Backed b → (cs : List Call) (n : ℕ) → In (accepted n) (run limits b cs).0 → n < length (known (run limits b cs).1)
   answered_known b k [] n i = absurd i
-  answered_known b k (c ∷ cs) n i = go (answered_known (call limits b c).1 (done limits b k c).1 cs n) i (done limits b k c).0
-    where
-      go : (In (accepted n) (run limits (call limits b c).1 cs).0 → n < length (known (run limits (call limits b c).1 cs).1))
-          → ((call limits b c).0 ≡ accepted n) ⊎ In (accepted n) (run limits (call limits b c).1 cs).0
-          → Left b (call limits b c) ⊎ Taken b (whole_text b c) (call limits b c) → n < length (known (run limits b (c ∷ cs)).1)
-      go ih (inr j) d = ih j
-      go ih (inl e) (inl l) = let z : refused l.number l.values ≡ accepted n = sym l.answer ∙ e in absurd (true≢false cc)
-      go ih (inl e) (inr t) =
-          let m : number_of (grown b (whole_text b c)) (whole_text b c) ≡ n = let z : accepted (number_of (grown b (whole_text b c)) (whole_text b c)) ≡ accepted n = sym t.answer ∙ e in cc in
-          let p = place_in same_texts (known (grown b (whole_text b c))) (whole_text b c) [] t.written in
+  answered_known b k (c ∷ cs) n i = elim i [
+    | inr j ↦ answered_known (call limits b c).1 (done limits b k c).1 cs n j
+    | inl e ↦ elim (done limits b k c).0 [
+      | inl l ↦ cc l.answer
+      | inr t ↦
+          let m : number_of (call limits b c).1 (whole_text b c) ≡ n = cc t.answer in
+          let p = place_in same_texts (known (call limits b c).1) (whole_text b c) [] t.written in
           let q = longer_run limits (call limits b c).1 (done limits b k c).1 cs in
           let h : length (known (call limits b c).1) ≤ length (known (run limits (call limits b c).1 cs).1) = rw q.1 (known_longer (call limits b c).1 q.0) in
-          omega (arith, p.0, m, ap (λ (z : List Text). length (known z)) t.book)
+          omega (arith, p.0, m)
+    ]
+  ]
 
 -- no text stands twice
 pub distinct_right : {A : Type 0} (xs ys : List A) → Distinct (xs ++ ys) → Distinct ys
 distinct_right [] ys d = d
 distinct_right (x ∷ xs) ys d = distinct_right xs ys d.1
 
-distinct_texts : (ss : List Shape) → Distinct ss → Distinct (map printed ss)
-distinct_texts [] d = tt
-distinct_texts (s ∷ ss) d =
-    (λ i. let p = map_in printed (printed s) ss i in d.0 (subst (λ (z : Shape). In z ss) (printed_inj p.0 s p.2) p.1), distinct_texts ss d.1)
-
 backed_distinct : (b : List Text) → Backed b → Distinct b
 backed_distinct b k = subst Distinct k.texts (distinct_texts k.ss (distinct_right basics k.ss k.sound.apart))
 
 pub known_distinct : (b : List Text) → Backed b → Distinct (known b)
-known_distinct b k = subst Distinct (sym (known_is k.ss) ∙ ap known k.texts) (λ i. nothing_empty (basics ++ k.ss) i, distinct_texts (basics ++ k.ss) k.sound.apart)
-  where
-    nothing_empty : (ss : List Shape) → In [] (map printed ss) → ⊥
-    nothing_empty ss i = let p = map_in printed [] ss i in true≢false (ap (λ (w : Text). same_text w []) (sym p.2) ∙ empty_not p.0)
+known_distinct b k = subst (λ (z : List Text). Distinct (known z)) k.texts (known_apart k.ss k.sound.apart)
 
 -- the tails
 same_tails : Decides (same_list same_text)
 same_tails = same_lists same_texts
 
-tails_distinct : (T : List (List Text)) (b : List Text) → Distinct T → Distinct (tails_from T b)
-tails_distinct T [] d = d
-tails_distinct T (w ∷ b) d = tails_distinct (add_all (same_list same_text) T (tails (fields_of (reading w)))) b (distinct_add_all same_tails T (tails (fields_of (reading w))) d)
+abbrev tails_at : Text → List (List Text)
+tails_at w = tails (fields_of (reading w))
 
-pub record TailAt (b : List Text) (t : List Text) : Type 0 where
-  pub of : Text
-  pub held : In of b
-  pub tail : In t (tails (fields_of (reading of)))
+-- all tails, one list of fields after another
+tails_are : (T : List (List Text)) (b : List Text) → tails_from T b ≡ add_all (same_list same_text) T (flat_map tails_at b)
+tails_are T [] = refl
+tails_are T (w ∷ b) = tails_are (add_all (same_list same_text) T (tails_at w)) b ∙ sym (add_all_append same_tails T (tails_at w) (flat_map tails_at b))
 
-tails_only : (T : List (List Text)) (b : List Text) (t : List Text) → In t (tails_from T b) → In t T ⊎ TailAt b t
-tails_only T [] t i = inl i
-tails_only T (w ∷ b) t i = go (tails_only (add_all (same_list same_text) T (tails (fields_of (reading w)))) b t i)
-  where
-    here : In t T ⊎ In t (tails (fields_of (reading w))) → In t T ⊎ TailAt (w ∷ b) t
-    here (inl j) = inl j
-    here (inr j) = inr (record { of = w; held = inl refl; tail = j })
-
-    go : In t (add_all (same_list same_text) T (tails (fields_of (reading w)))) ⊎ TailAt b t → In t T ⊎ TailAt (w ∷ b) t
-    go (inl j) = here (in_add_all same_tails T (tails (fields_of (reading w))) t j)
-    go (inr r) = inr (record { of = r.of; held = inr r.held; tail = r.tail })
-
-tails_stay : (T : List (List Text)) (b : List Text) (t : List Text) → In t T → In t (tails_from T b)
-tails_stay T [] t i = i
-tails_stay T (w ∷ b) t i = tails_stay (add_all (same_list same_text) T (tails (fields_of (reading w)))) b t (add_all_in same_tails T (tails (fields_of (reading w))) t (inl i))
-
-tails_every : (T : List (List Text)) (b : List Text) (t v : List Text) (w : Text) → In w b → v ≡ fields_of (reading w) → In t (tails v) → In t (tails_from T b)
-tails_every T [] t v w i e j = absurd i
-tails_every T (u ∷ b) t v w (inl q) e j =
-    tails_stay (add_all (same_list same_text) T (tails (fields_of (reading u)))) b t
-    (add_all_in same_tails T (tails (fields_of (reading u))) t (inr (subst (λ (z : List Text). In t (tails z)) (e ∙ ap (λ (z : Text). fields_of (reading z)) (sym q)) j)))
-tails_every T (u ∷ b) t v w (inr i) e j = tails_every (add_all (same_list same_text) T (tails (fields_of (reading u)))) b t v w i e j
+tails_distinct : (b : List Text) → Distinct (tails_of b)
+tails_distinct b = rw (tails_are [] b) (distinct_add_all same_tails [] (flat_map tails_at b) tt)
 
 -- a tail is one of the fields of a container that is held
-tail_of : (answers : List Answer) (b : List Text) → ((w : Text) → In w b → ContainerText answers b w) → (t : List Text) → TailAt b t → Tail answers b t
-tail_of answers b h t r =
-    let c = h r.of r.held in
-    let f : fields_of (reading r.of) ≡ map printed (fields c.shape) = ap (λ (z : Text). fields_of (reading z)) c.text ∙ ap fields_of (reading_printed c.shape) in
-    let q = tail_in (fields_of (reading r.of)) t r.tail in
-    record { shape = c.shape; result = c.result; before = q.0; list = sym f ∙ q.1; filled = q.2 }
+tail_of : (answers : List Answer) (b : List Text) → ((w : Text) → In w b → ContainerText answers b w) → (t : List Text) → In t (tails_of b) → Tail answers b t
+tail_of answers b h t i = elim (in_add_all same_tails [] (flat_map tails_at b) t (rw (tails_are [] b) at i)) [
+  | inl j ↦ absurd j
+  | inr j ↦ let r = flat_in tails_at t b j in let c = h r.0 r.1 in
+      let f : fields_of (reading r.0) ≡ map printed (fields c.shape) = ap (λ (z : Text). fields_of (reading z)) c.text ∙ ap fields_of (reading_printed c.shape) in
+      let q = tail_in (fields_of (reading r.0)) t r.2 in
+      record { shape = c.shape; result = c.result; before = q.0; list = sym f ∙ q.1; filled = q.2 }
+]
 
 -- what has fields is a container
 with_fields : (s : Shape) (before t : List Text) → map printed (fields s) ≡ before ++ t → (t ≡ [] → ⊥) → Container s
 with_fields (basic c h) [] t e n = absurd (n (sym e))
-with_fields (basic c h) (x ∷ before) t e n = absurd (true≢false cc)
-with_fields (array s) before t e n = tt
-with_fields (maybe s) before t e n = tt
-with_fields (dict a b) before t e n = tt
-with_fields (structure s ts) before t e n = tt
+with_fields (basic c h) (x ∷ before) t e n = cc
+with_fields s before t e n = tt
 
 of_tail : (answers : List Answer) (b : List Text) → ((w : Text) → ContainerText answers b w → In w b) → (t : List Text) → Tail answers b t → In t (tails_of b)
 of_tail answers b h t r =
     let i : In (printed r.shape) b = h (printed r.shape) (record { shape = r.shape; result = r.result; container = with_fields r.shape r.before t r.list r.filled; text = refl }) in
-    tails_every [] b t (map printed (fields r.shape)) (printed r.shape) i (sym (ap fields_of (reading_printed r.shape))) (in_tail (map printed (fields r.shape)) t r.before r.list r.filled)
+    rw (tails_are [] b) (add_all_in same_tails [] (flat_map tails_at b) t
+    (inr (in_flat tails_at t (printed r.shape) b i (rw (reading_printed r.shape, r.list) (in_tail r.before t r.filled)))))
 
 -- the book stays within its room
 abbrev Fits : Limits → List Text → Type 0
@@ -185,18 +152,11 @@ Fits limits b = (length b ≤ limits.types) × (length (tails_of b) ≤ limits.f
 
 fits_call : (limits : Limits) (b : List Text) → Fits limits b → (c : Call) → Fits limits (call limits b c).1
 unfolding call
-fits_call limits b room c = go (early c (length b))
+fits_call limits b room c = go (early c (length b) else late limits (needed b (whole_text b c))) refl
   where
-    end : (o p q : Bool) → ltb limits.types (length (grown b (whole_text b c))) ≡ p → ltb limits.fields (length (tails_of (grown b (whole_text b c)))) ≡ q
-        → Fits limits (answered b (whole_text b c) ((when o 7) else (when (p || q) 8))).1
-    end true p q e f = room
-    end false true q e f = room
-    end false false true e f = room
-    end false false false e f = (ltb-false limits.types (length (grown b (whole_text b c))) e, ltb-false limits.fields (length (tails_of (grown b (whole_text b c)))) f)
-
-    go : (o : Refusing) → Fits limits (answered b (whole_text b c) (o else late limits (needed b (whole_text b c)))).1
-    go (some e) = room
-    go none = end (ltb longest_form (length (whole_text b c))) (ltb limits.types (length (grown b (whole_text b c)))) (ltb limits.fields (length (tails_of (grown b (whole_text b c))))) refl refl
+    go : (o : Refusing) → (early c (length b) else late limits (needed b (whole_text b c))) ≡ o → Fits limits (answered b (whole_text b c) o).1
+    go (some e) h = room
+    go none h = late_none limits (needed b (whole_text b c)) (else_none _ _ h).1
 
 fits_run : (limits : Limits) (b : List Text) → Fits limits b → (cs : List Call) → Fits limits (run limits b cs).1
 fits_run limits b room [] = room
@@ -211,8 +171,8 @@ facts limits cs =
     record {
       distinct = backed_distinct (run limits [] cs).1 k;
       texts = λ w. (of w, every limits [] none_yet cs w);
-      distinct_tails = tails_distinct [] (run limits [] cs).1 tt;
-      tails = λ t. (λ i. some_tail t (tails_only [] (run limits [] cs).1 t i), of_tail (run limits [] cs).0 (run limits [] cs).1 (every limits [] none_yet cs) t);
+      distinct_tails = tails_distinct (run limits [] cs).1;
+      tails = λ t. (tail_of (run limits [] cs).0 (run limits [] cs).1 of t, of_tail (run limits [] cs).0 (run limits [] cs).1 (every limits [] none_yet cs) t);
       types = (fits_run limits [] (omega arith) cs).0;
       fields = (fits_run limits [] (omega arith) cs).1;
       numbers = answered_known limits [] none_yet cs;
@@ -220,15 +180,7 @@ facts limits cs =
     }
   where
     of : (w : Text) → In w (run limits [] cs).1 → ContainerText (run limits [] cs).0 (run limits [] cs).1 w
-    of w i = ever (only limits [] none_yet cs w i)
-      where
-        ever : In w [] ⊎ ContainerText (run limits [] cs).0 (run limits [] cs).1 w → ContainerText (run limits [] cs).0 (run limits [] cs).1 w
-        ever (inl i) = absurd i
-        ever (inr r) = r
-
-    some_tail : (t : List Text) → In t [] ⊎ TailAt (run limits [] cs).1 t → Tail (run limits [] cs).0 (run limits [] cs).1 t
-    some_tail t (inl i) = absurd i
-    some_tail t (inr r) = tail_of (run limits [] cs).0 (run limits [] cs).1 of t r
+    of w i = elim (only limits [] none_yet cs w i) [ inl j ↦ absurd j | inr r ↦ r ]
 
 -- nothing new
 nothing_new : (limits : Limits) (b : List Text) → Fits limits b → (c : Call) → early c (length b) ≡ none → length (whole_text b c) ≤ longest_form
@@ -236,7 +188,7 @@ nothing_new : (limits : Limits) (b : List Text) → Fits limits b → (c : Call)
 unfolding call
 nothing_new limits b room c e l h =
     let g : grown b (whole_text b c) ≡ b = add_all_old same_texts b (containers_of (reading (whole_text b c))) h in
-    rw e (rw g (rw (le-ltb longest_form (length (whole_text b c)) l) (rw (le-ltb limits.types (length b) room.0) (rw (le-ltb limits.fields (length (tails_of b)) room.1) (λ i. (accepted (number_of (g i) (whole_text b c)), g i))))))
+    grind (arith, nat_tests, room.0, room.1)
 
 -- one call
 one_call : (limits : Limits) (b : List Text) → Backed b → Fits limits b → (c : Call) → OneMore limits b c
@@ -246,17 +198,12 @@ one_call limits b k room c = go (done limits b k c).0
     lasting n l = let p = longer_call limits b k c in ap (λ (z : List Text). text_of z n) p.1 ∙ known_keeps b p.0 n l
 
     go : Left b (call limits b c) ⊎ Taken b (whole_text b c) (call limits b c) → OneMore limits b c
-    go (inl l) = record {
-      refusal = λ e vs h. l.book;
-      accepts = λ n h. let z : refused l.number l.values ≡ accepted n = sym l.answer ∙ h in absurd (true≢false cc);
-      lasts = lasting;
-      again = nothing_new limits b room c;
-    }
+    go (inl l) = record { refusal = λ e vs h. l.book; accepts = λ n h. cc l.answer; lasts = lasting; again = nothing_new limits b room c }
     go (inr t) = record {
-      refusal = λ e vs h. let z : accepted (number_of (grown b (whole_text b c)) (whole_text b c)) ≡ refused e vs = sym t.answer ∙ h in absurd (true≢false cc);
+      refusal = λ e vs h. cc t.answer;
       accepts = λ n h.
-          let m : number_of (grown b (whole_text b c)) (whole_text b c) ≡ n = let z : accepted (number_of (grown b (whole_text b c)) (whole_text b c)) ≡ accepted n = sym t.answer ∙ h in cc in
-          ap₂ text_of t.book (sym m) ∙ (place_in same_texts (known (grown b (whole_text b c))) (whole_text b c) [] t.written).1;
+          let m : number_of (call limits b c).1 (whole_text b c) ≡ n = cc t.answer in
+          ap (text_of (call limits b c).1) (sym m) ∙ (place_in same_texts (known (call limits b c).1) (whole_text b c) [] t.written).1;
       lasts = lasting;
       again = nothing_new limits b room c;
     }

@@ -1,5 +1,5 @@
 -- What entering a container, or all of a tree, comes to.
-use Rattle.std.proofs.Common.{◌≡◌, ℕ, zero, suc, ◌+◌, ◌-◌, ◌<◌, true, false, eqb, ◌⊎◌, List, [], ◌∷◌, ◌++◌, map, length, get_or, sym, refl, ap, ◌∙◌, subst, ap₂, inl, inr, true≢false, append_assoc, append-nil, arith, length-append}
+use Rattle.std.proofs.Common.{◌≡◌, ℕ, zero, suc, ◌+◌, ◌-◌, ◌<◌, true, false, eqb, ◌⊎◌, List, [], ◌∷◌, ◌++◌, map, length, get_or, sym, refl, ap, ◌∙◌, subst, ap₂, inl, inr, append_assoc, append-nil, arith, length-append}
 use mathlib.Core.List.{map-append}
 use lib.ListN.{length-map}
 use Rattle.std.proofs.lemmas.List.{get_or_append_left, map_push, length_push, get_or-map, get_or_push}
@@ -10,9 +10,9 @@ use Rattle.grammar.specs.Parts.{containers, containers_all}
 use Rattle.book.specs.Plain.{same_text, single, known, number_of, text_of}
 use Rattle.book.specs.Nodes.{Node, array, maybe, dict, structure, same_node, enter, intern, intern_all, basics, byte, shape_at, shapes_at, node_shape, Part, Parts, Known}
 use Rattle.grammar.proofs.ReadBack.{printed_inj, head}
-use Rattle.book.proofs.Lists.{numbers, in_get_d, has_in, in_has, not_in, add_old, add_new, add_all_append, place_in, place_out, has2, place2, distinct_at}
+use Rattle.book.proofs.Lists.{numbers, has_in, not_in, add_old, add_new, add_all_append, place_in, place_out, place_at, map_in, place2}
 use Rattle.book.proofs.NodeShapes.{same_texts, same_nodes, Row, keep_node, basics_long, basics_count, at_more, at_shape}
-use Rattle.book.proofs.Sound.{Sound, as_many, row, in_text, pushed, in_map}
+use Rattle.book.proofs.Sound.{Sound, as_many, row, has_same, in_text, pushed}
 
 pub record Made (ss : List Shape) (s : Shape) (after : List Text) (r : ℕ × List Node) : Type 0 where
   pub new : List Shape
@@ -49,7 +49,7 @@ entered ns ss g x k = go (cases_Bool (has same_node ns x))
         }
     go (inr h) =
         let n = not_in same_nodes ns x h in
-        let m : In (printed (node_shape ss x)) (map printed ss) → ⊥ = λ j. true≢false (sym (in_has same_texts (map printed ss) (printed (node_shape ss x)) j) ∙ sym (has2 same_node same_text (Row ss) (keep_node ss g.apart) ns (map printed ss) x (printed (node_shape ss x)) g.each (row ns ss g x k)) ∙ h) in
+        let m : In (printed (node_shape ss x)) (map printed ss) → ⊥ = not_in same_texts (map printed ss) (printed (node_shape ss x)) (sym (has_same ns ss g x k) ∙ h) in
         let l : place same_node ns x ≡ length ss = place_out same_nodes ns x n ∙ as_many ns ss g in
         let e = length_push ss (node_shape ss x) in
         record {
@@ -62,18 +62,18 @@ entered ns ss g x k = go (cases_Bool (has same_node ns x))
           texts = map_push printed ss (node_shape ss x) ∙ sym (add_new same_texts (map printed ss) (printed (node_shape ss x)) m);
         }
 
-pub wrap : (ss : List Shape) (s : Shape) (mid : List Text) (ns : List Node) (new rest : List Shape) → new ≡ ss ++ rest → Sound ns new → map printed new ≡ mid
-    → (x : Node) → Known (length new) x → node_shape new x ≡ s → Made ss s (add same_text mid (printed s)) (enter ns x)
-wrap ss s mid ns new rest e g t x k i =
+wrap : (ss : List Shape) (s : Shape) (mid after : List Text) (ns : List Node) (new rest : List Shape) → after ≡ add same_text mid (printed s) → new ≡ ss ++ rest → Sound ns new → map printed new ≡ mid
+    → (x : Node) → Known (length new) x → node_shape new x ≡ s → Made ss s after (enter ns x)
+wrap ss s mid after ns new rest a e g t x k i =
     let m = entered ns new g x k in
     record {
       new = m.new;
       rest = rest ++ m.rest;
-      longer = m.longer ∙ ap (λ (z : List Shape). z ++ m.rest) e ∙ append_assoc ss rest m.rest;
+      longer = cc (m.longer, append_assoc ss rest m.rest);
       sound = m.sound;
       part = m.part;
       is = m.is ∙ i;
-      texts = m.texts ∙ ap₂ (λ (z : List Text) (u : Shape). add same_text z (printed u)) t i;
+      texts = cc m.texts;
     }
 
 pub record MadeAll (ss : List Shape) (ts : Shapes) (after : List Text) (r : List ℕ × List Node) : Type 0 where
@@ -110,9 +110,6 @@ letter_shape c h =
 kept_at : (ss r new : List Shape) → new ≡ ss ++ r → (n : ℕ) → Part (length ss) n → Part (length new) n × (shape_at new n ≡ shape_at ss n)
 kept_at ss r new e n p = (omega (arith, ap length e, length-append ss r), ap (λ (z : List Shape). shape_at z n) e ∙ at_more ss r n p)
 
-add_last : (b : List Text) (xs : List Shape) (s : Shape) → add_all same_text b (map printed (xs ++ s ∷ [])) ≡ add same_text (add_all same_text b (map printed xs)) (printed s)
-add_last b xs s = ap (add_all same_text b) (map-append printed xs (s ∷ [])) ∙ add_all_append same_texts b (map printed xs) (printed s ∷ [])
-
 add_both : (b : List Text) (xs ys : List Shape) → add_all same_text b (map printed (xs ++ ys)) ≡ add_all same_text (add_all same_text b (map printed xs)) (map printed ys)
 add_both b xs ys = ap (add_all same_text b) (map-append printed xs ys) ∙ add_all_append same_texts b (map printed xs) (map printed ys)
 
@@ -134,32 +131,28 @@ mutual
       }
   interned (Shape.array t) ns ss g =
       let m = interned t ns ss g in
-      subst (λ (z : List Text). Made ss (Shape.array t) z (intern (Shape.array t) ns)) (sym (add_last (map printed ss) (containers t) (Shape.array t)))
-      (wrap ss (Shape.array t) (put ss (containers t)) (intern t ns).1 m.new m.rest m.longer m.sound m.texts (array (intern t ns).0) m.part (ap Shape.array m.is))
+      wrap ss (Shape.array t) (put ss (containers t)) _ (intern t ns).1 m.new m.rest (add_both (map printed ss) (containers t) (Shape.array t ∷ [])) m.longer m.sound m.texts
+      (array (intern t ns).0) m.part (ap Shape.array m.is)
   interned (Shape.maybe t) ns ss g =
       let m = interned t ns ss g in
-      subst (λ (z : List Text). Made ss (Shape.maybe t) z (intern (Shape.maybe t) ns)) (sym (add_last (map printed ss) (containers t) (Shape.maybe t)))
-      (wrap ss (Shape.maybe t) (put ss (containers t)) (intern t ns).1 m.new m.rest m.longer m.sound m.texts (maybe (intern t ns).0) m.part (ap Shape.maybe m.is))
+      wrap ss (Shape.maybe t) (put ss (containers t)) _ (intern t ns).1 m.new m.rest (add_both (map printed ss) (containers t) (Shape.maybe t ∷ [])) m.longer m.sound m.texts
+      (maybe (intern t ns).0) m.part (ap Shape.maybe m.is)
   interned (Shape.dict t u) ns ss g =
       let m = interned t ns ss g in
       let q = interned u (intern t ns).1 m.new m.sound in
       let k = kept_at m.new q.rest q.new q.longer (intern t ns).0 m.part in
-      subst (λ (z : List Text). Made ss (Shape.dict t u) z (intern (Shape.dict t u) ns))
-      (sym (add_both (map printed ss) (containers t) (containers u ++ Shape.dict t u ∷ []) ∙ add_last (put ss (containers t)) (containers u) (Shape.dict t u)))
-      (wrap ss (Shape.dict t u) (add_all same_text (put ss (containers t)) (map printed (containers u))) (intern u (intern t ns).1).1 q.new (m.rest ++ q.rest)
-      (q.longer ∙ ap (λ (z : List Shape). z ++ q.rest) m.longer ∙ append_assoc ss m.rest q.rest) q.sound
-      (q.texts ∙ ap (λ (z : List Text). add_all same_text z (map printed (containers u))) m.texts)
-      (dict (intern t ns).0 (intern u (intern t ns).1).0) (k.0, q.part) (ap₂ Shape.dict (k.1 ∙ m.is) q.is))
+      wrap ss (Shape.dict t u) (add_all same_text (put ss (containers t)) (map printed (containers u))) _ (intern u (intern t ns).1).1 q.new (m.rest ++ q.rest)
+      (add_both (map printed ss) (containers t) (containers u ++ Shape.dict t u ∷ []) ∙ add_both (put ss (containers t)) (containers u) (Shape.dict t u ∷ []))
+      (cc (m.longer, q.longer, append_assoc ss m.rest q.rest)) q.sound (cc (m.texts, q.texts))
+      (dict (intern t ns).0 (intern u (intern t ns).1).0) (k.0, q.part) (ap₂ Shape.dict (k.1 ∙ m.is) q.is)
   interned (Shape.structure t ts) ns ss g =
       let m = interned t ns ss g in
       let q = interned_all ts (intern t ns).1 m.new m.sound in
       let k = kept_at m.new q.rest q.new q.longer (intern t ns).0 m.part in
-      subst (λ (z : List Text). Made ss (Shape.structure t ts) z (intern (Shape.structure t ts) ns))
-      (sym (add_both (map printed ss) (containers t) (containers_all ts ++ Shape.structure t ts ∷ []) ∙ add_last (put ss (containers t)) (containers_all ts) (Shape.structure t ts)))
-      (wrap ss (Shape.structure t ts) (add_all same_text (put ss (containers t)) (map printed (containers_all ts))) (intern_all ts (intern t ns).1).1 q.new (m.rest ++ q.rest)
-      (q.longer ∙ ap (λ (z : List Shape). z ++ q.rest) m.longer ∙ append_assoc ss m.rest q.rest) q.sound
-      (q.texts ∙ ap (λ (z : List Text). add_all same_text z (map printed (containers_all ts))) m.texts)
-      (structure ((intern t ns).0 ∷ (intern_all ts (intern t ns).1).0)) (k.0, q.parts) (ap₂ Shape.structure (k.1 ∙ m.is) q.is))
+      wrap ss (Shape.structure t ts) (add_all same_text (put ss (containers t)) (map printed (containers_all ts))) _ (intern_all ts (intern t ns).1).1 q.new (m.rest ++ q.rest)
+      (add_both (map printed ss) (containers t) (containers_all ts ++ Shape.structure t ts ∷ []) ∙ add_both (put ss (containers t)) (containers_all ts) (Shape.structure t ts ∷ []))
+      (cc (m.longer, q.longer, append_assoc ss m.rest q.rest)) q.sound (cc (m.texts, q.texts))
+      (structure ((intern t ns).0 ∷ (intern_all ts (intern t ns).1).0)) (k.0, q.parts) (ap₂ Shape.structure (k.1 ∙ m.is) q.is)
 
   pub interned_all : (ts : Shapes) (ns : List Node) (ss : List Shape) → Sound ns ss → MadeAll ss ts (put ss (containers_all ts)) (intern_all ts ns)
   interned_all nil ns ss g = record { new = ss; rest = []; longer = sym (append-nil ss); sound = g; parts = tt; is = refl; texts = refl }
@@ -170,11 +163,11 @@ mutual
       record {
         new = q.new;
         rest = m.rest ++ q.rest;
-        longer = q.longer ∙ ap (λ (z : List Shape). z ++ q.rest) m.longer ∙ append_assoc ss m.rest q.rest;
+        longer = cc (m.longer, q.longer, append_assoc ss m.rest q.rest);
         sound = q.sound;
         parts = (k.0, q.parts);
         is = ap₂ more (k.1 ∙ m.is) q.is;
-        texts = q.texts ∙ ap (λ (z : List Text). add_all same_text z (map printed (containers_all ts))) m.texts ∙ sym (add_both (map printed ss) (containers t) (containers_all ts));
+        texts = cc (m.texts, q.texts, add_both (map printed ss) (containers t) (containers_all ts));
       }
 
 -- numbers and texts
@@ -188,19 +181,18 @@ text_is ss n p = ap (λ (z : List Text). get_or z n []) (known_is ss) ∙ by n p
     by zero p = absurd (omega arith)
     by (suc n) p = get_or-map printed (basics ++ ss) n byte [] (omega (arith, basics_long ss)) ∙ ap (λ (k : ℕ). printed (get_or (basics ++ ss) k byte)) (omega arith)
 
-pub not_empty : (s : Shape) → same_text [] (printed s) ≡ false
-not_empty s = let h = head s in rw h.text
-
-pub empty_not : (s : Shape) → same_text (printed s) [] ≡ false
+empty_not : (s : Shape) → same_text (printed s) [] ≡ false
 empty_not s = let h = head s in rw h.text
+
+-- no two numbers have the same text
+pub distinct_texts : (ss : List Shape) → Distinct ss → Distinct (map printed ss)
+distinct_texts [] d = tt
+distinct_texts (s ∷ ss) d = (λ i. let p = map_in printed (printed s) ss i in d.0 (rw (printed_inj p.0 s p.2) at p.1), distinct_texts ss d.1)
+
+pub known_apart : (ss : List Shape) → Distinct (basics ++ ss) → Distinct (known (map printed ss))
+known_apart ss d = subst Distinct (sym (known_is ss)) (λ i. let p = map_in printed [] (basics ++ ss) i in cc (p.2, empty_not p.0, same_texts.self []), distinct_texts (basics ++ ss) d)
 
 pub number_is : (ss : List Shape) → Distinct (basics ++ ss) → (n : ℕ) (s : Shape) → Part (length ss) n → shape_at ss n ≡ s → number_of (map printed ss) (printed s) ≡ n
 number_is ss d n s p e =
-    let l = basics_long ss in
-    let i : In s (basics ++ ss) = subst (λ (z : Shape). In z (basics ++ ss)) e (in_get_d (basics ++ ss) (n - 1) byte (omega arith)) in
-    let q = place_in same_texts (map printed (basics ++ ss)) (printed s) [] (in_map printed s (basics ++ ss) i) in
-    let k : ℕ = place same_text (map printed (basics ++ ss)) (printed s) in
-    let b : k < length (basics ++ ss) = omega (arith, q.0, length-map (basics ++ ss) printed) in
-    let same : get_or (basics ++ ss) k byte ≡ get_or (basics ++ ss) (n - 1) byte = printed_inj _ _ (sym (get_or-map printed (basics ++ ss) k byte [] b) ∙ q.1 ∙ ap printed (sym e)) in
-    let z : k ≡ n - 1 = distinct_at (basics ++ ss) k (n - 1) byte d b (omega arith) same in
-    ap (λ (z : List Text). place same_text z (printed s)) (known_is ss) ∙ rw (not_empty s) (omega arith)
+    let l = length-map ss printed in
+    ap (number_of (map printed ss)) (sym (text_is ss n p ∙ ap printed e)) ∙ place_at same_texts (known (map printed ss)) n [] (known_apart ss d) (omega arith)

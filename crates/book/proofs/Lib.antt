@@ -15,5 +15,3 @@ pub mod Backed
 pub mod Histories
 pub mod Places
 pub mod MakersTold
-pub mod Growth
-pub mod FromBytes

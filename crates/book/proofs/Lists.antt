@@ -1,21 +1,13 @@
 -- Lists without repetition.
-use Rattle.std.proofs.Common.{◌≡◌, ℕ, zero, suc, ◌<◌, Bool, true, false, cond, ◌&&◌, ◌||◌, eqb, ◌⊎◌, List, [], ◌∷◌, ◌++◌, map, length, get_or, sym, refl, ap, ◌∙◌, subst, ap₂, inl, inr, true≢false, append_assoc, append-nil, arith}
-use Rattle.std.proofs.lemmas.Bool.{eq-eqb, eqb-true, or_cases, or_left, or_right, and_parts, cases_Bool, and_from}
+use Rattle.std.proofs.Common.{◌≡◌, ℕ, zero, suc, ◌<◌, Bool, true, false, cond, ◌&&◌, ◌||◌, eqb, ◌⊎◌, List, [], ◌∷◌, ◌++◌, map, length, get_or, sym, refl, subst, ap₂, inl, inr, append_assoc, append-nil, arith}
+use Rattle.std.proofs.lemmas.Bool.{eq-eqb, eqb-true}
+use Rattle.std.proofs.lemmas.Slice.Zip.{all_zipped_more}
+use Rattle.std.specs.List.{flat_map, AllByRecursion, AllZip}
 use Rattle.grammar.specs.Lists.{In, Distinct, same_list, has, place, add, add_all, tails}
 
 pub record Decides {A : Type 0} (same : A → A → Bool) : Type 0 where
   pub so : (x y : A) → same x y ≡ true → x ≡ y
   pub self : (x : A) → same x x ≡ true
-
-abbrev pub All : {A : Type 0} → (A → Type 0) → List A → Type 0
-All P [] = Unit {0}
-All P (x ∷ xs) = P x × All P xs
-
-abbrev pub All2 : {A B : Type 0} → (A → B → Type 0) → List A → List B → Type 0
-All2 R [] [] = Unit {0}
-All2 R [] (y ∷ ys) = ⊥
-All2 R (x ∷ xs) [] = ⊥
-All2 R (x ∷ xs) (y ∷ ys) = R x y × All2 R xs ys
 
 pub numbers : Decides eqb
 numbers = record { so = λ x y h. eqb-true x y h; self = λ x. eq-eqb x x refl }
@@ -24,16 +16,15 @@ pub same_lists : {A : Type 0} {same : A → A → Bool} → Decides same → Dec
 same_lists {A} {same} d = record { so = so; self = self }
   where
     so : (x y : List A) → same_list same x y ≡ true → x ≡ y
-    so [] [] h = refl
-    so [] (y ∷ ys) h = absurd (true≢false (sym h))
-    so (x ∷ xs) [] h = absurd (true≢false (sym h))
-    so (x ∷ xs) (y ∷ ys) h = let p = and_parts (same x y) (same_list same xs ys) h in ap₂ ◌∷◌ (d.so x y p.0) (so xs ys p.1)
+    so [] y h = grind arith
+    so (x ∷ xs) [] h = cc
+    so (x ∷ xs) (y ∷ ys) h = grind (arith, d.so, so xs ys)
 
     self : (x : List A) → same_list same x x ≡ true
     self [] = refl
-    self (x ∷ xs) = and_from (same x x) (same_list same xs xs) (d.self x) (self xs)
+    self (x ∷ xs) = grind (arith, d.self x, self xs)
 
-pub all_in : {A : Type 0} (P : A → Type 0) (xs : List A) (x : A) → All P xs → In x xs → P x
+pub all_in : {A : Type 0} (P : A → Type 0) (xs : List A) (x : A) → AllByRecursion P xs → In x xs → P x
 all_in P [] x a i = absurd i
 all_in P (y ∷ ys) x a (inl e) = subst P e a.0
 all_in P (y ∷ ys) x a (inr i) = all_in P ys x a.1 i
@@ -41,8 +32,7 @@ all_in P (y ∷ ys) x a (inr i) = all_in P ys x a.1 i
 module _ {A : Type 0} where
   pub in_left : (x : A) (xs ys : List A) → In x xs → In x (xs ++ ys)
   in_left x [] ys i = absurd i
-  in_left x (y ∷ xs) ys (inl e) = inl e
-  in_left x (y ∷ xs) ys (inr i) = inr (in_left x xs ys i)
+  in_left x (y ∷ xs) ys i = grind (arith, in_left x xs ys)
 
   pub in_right : (x : A) (xs ys : List A) → In x ys → In x (xs ++ ys)
   in_right x [] ys i = i
@@ -50,67 +40,41 @@ module _ {A : Type 0} where
 
   pub in_split : (x : A) (xs ys : List A) → In x (xs ++ ys) → In x xs ⊎ In x ys
   in_split x [] ys i = inr i
-  in_split x (y ∷ xs) ys (inl e) = inl (inl e)
-  in_split x (y ∷ xs) ys (inr i) = go (in_split x xs ys i)
-    where
-      go : In x xs ⊎ In x ys → In x (y ∷ xs) ⊎ In x ys
-      go (inl p) = inl (inr p)
-      go (inr p) = inr p
+  in_split x (y ∷ xs) ys i = grind (arith, in_split x xs ys)
 
   pub in_get_d : (xs : List A) (i : ℕ) (d : A) → i < length xs → In (get_or xs i d) xs
   in_get_d [] i d l = absurd (omega arith)
-  in_get_d (x ∷ xs) zero d l = inl refl
-  in_get_d (x ∷ xs) (suc i) d l = inr (in_get_d xs i d (omega arith))
+  in_get_d (x ∷ xs) i d l = grind (arith, in_get_d xs)
 
   pub distinct_push : (xs : List A) (x : A) → Distinct xs → (In x xs → ⊥) → Distinct (xs ++ x ∷ [])
   distinct_push [] x d n = (λ i. i, tt)
-  distinct_push (y ∷ ys) x d n = (λ i. go (in_split y ys (x ∷ []) i), distinct_push ys x d.1 (λ i. n (inr i)))
-    where
-      go : In y ys ⊎ In y (x ∷ []) → ⊥
-      go (inl i) = d.0 i
-      go (inr (inl e)) = n (inl (sym e))
-      go (inr (inr i)) = i
+  distinct_push (y ∷ ys) x d n = grind (arith, distinct_push ys x, in_split y ys (x ∷ []))
 
   pub distinct_at : (xs : List A) (i j : ℕ) (d : A) → Distinct xs → i < length xs → j < length xs → get_or xs i d ≡ get_or xs j d → i ≡ j
   distinct_at [] i j d h p q e = absurd (omega arith)
-  distinct_at (x ∷ xs) zero zero d h p q e = refl
-  distinct_at (x ∷ xs) zero (suc j) d h p q e = absurd (h.0 (subst (λ (y : A). In y xs) (sym e) (in_get_d xs j d (omega arith))))
-  distinct_at (x ∷ xs) (suc i) zero d h p q e = absurd (h.0 (subst (λ (y : A). In y xs) e (in_get_d xs i d (omega arith))))
-  distinct_at (x ∷ xs) (suc i) (suc j) d h p q e = ap suc (distinct_at xs i j d h.1 (omega arith) (omega arith) e)
+  distinct_at (x ∷ xs) i j d h p q e = grind (arith, distinct_at xs, in_get_d xs, h.0, h.1)
 
   module _ {same : A → A → Bool} (dec : Decides same) where
     pub has_in : (xs : List A) (x : A) → has same xs x ≡ true → In x xs
-    has_in [] x h = absurd (true≢false (sym h))
-    has_in (y ∷ ys) x h = go (has_in ys x) (or_cases (same y x) (has same ys x) h)
-      where
-        go : (has same ys x ≡ true → In x ys) → (same y x ≡ true) ⊎ (has same ys x ≡ true) → In x (y ∷ ys)
-        go ih (inl e) = inl (dec.so y x e)
-        go ih (inr e) = inr (ih e)
+    has_in [] x h = cc
+    has_in (y ∷ ys) x h = grind (arith, has_in ys x, dec.so)
 
     pub in_has : (xs : List A) (x : A) → In x xs → has same xs x ≡ true
     in_has [] x i = absurd i
-    in_has (y ∷ ys) x (inl e) = or_left (same y x) (has same ys x) (subst (λ (z : A). same y z ≡ true) e (dec.self y))
-    in_has (y ∷ ys) x (inr i) = or_right (same y x) (has same ys x) (in_has ys x i)
+    in_has (y ∷ ys) x i = grind (arith, in_has ys x, dec.self)
 
     pub not_in : (xs : List A) (x : A) → has same xs x ≡ false → In x xs → ⊥
-    not_in xs x h i = true≢false (sym (in_has xs x i) ∙ h)
-
-    pub in_not : (xs : List A) (x : A) → (In x xs → ⊥) → has same xs x ≡ false
-    in_not xs x n = go (cases_Bool (has same xs x))
-      where
-        go : (has same xs x ≡ true) ⊎ (has same xs x ≡ false) → has same xs x ≡ false
-        go (inl e) = absurd (n (has_in xs x e))
-        go (inr e) = e
+    not_in xs x h i = cc (in_has xs x i)
 
     pub add_old : (b : List A) (x : A) → In x b → add same b x ≡ b
     add_old b x i = rw (in_has b x i)
 
     pub add_new : (b : List A) (x : A) → (In x b → ⊥) → add same b x ≡ b ++ x ∷ []
-    add_new b x n = rw (in_not b x n)
+    add_new b x n = grind (arith, has_in b x)
 
     pub add_all_old : (b xs : List A) → ((x : A) → In x xs → In x b) → add_all same b xs ≡ b
     add_all_old b [] h = refl
-    add_all_old b (x ∷ xs) h = ap (λ (c : List A). add_all same c xs) (add_old b x (h x (inl refl))) ∙ add_all_old b xs (λ y i. h y (inr i))
+    add_all_old b (x ∷ xs) h = rw (add_old b x (h x (inl refl))) (add_all_old b xs (λ y i. h y (inr i)))
 
     pub add_all_append : (b xs ys : List A) → add_all same b (xs ++ ys) ≡ add_all same (add_all same b xs) ys
     add_all_append b [] ys = refl
@@ -118,73 +82,31 @@ module _ {A : Type 0} where
 
     pub place_in : (xs : List A) (x d : A) → In x xs → (place same xs x < length xs) × (get_or xs (place same xs x) d ≡ x)
     place_in [] x d i = absurd i
-    place_in (y ∷ ys) x d i = go (place_in ys x d) (cases_Bool (same y x)) i
-      where
-        later : (same y x ≡ false) → In x (y ∷ ys) → In x ys
-        later f (inl e) = absurd (true≢false (sym (subst (λ (z : A). same y z ≡ true) e (dec.self y)) ∙ f))
-        later f (inr i) = i
-
-        go : (In x ys → (place same ys x < length ys) × (get_or ys (place same ys x) d ≡ x)) → (same y x ≡ true) ⊎ (same y x ≡ false) → In x (y ∷ ys) → (place same (y ∷ ys) x < length (y ∷ ys)) × (get_or (y ∷ ys) (place same (y ∷ ys) x) d ≡ x)
-        go ih (inl e) i = rw e (omega arith, dec.so y x e)
-        go ih (inr e) i = let p = ih (later e i) in rw e (omega (arith, p.0), p.1)
+    place_in (y ∷ ys) x d i = grind (arith, place_in ys x d, dec.so, dec.self)
 
     pub place_out : (xs : List A) (x : A) → (In x xs → ⊥) → place same xs x ≡ length xs
     place_out [] x n = refl
-    place_out (y ∷ ys) x n = go (place_out ys x (λ i. n (inr i))) (cases_Bool (same y x))
-      where
-        go : place same ys x ≡ length ys → (same y x ≡ true) ⊎ (same y x ≡ false) → place same (y ∷ ys) x ≡ length (y ∷ ys)
-        go ih (inl e) = absurd (n (inl (dec.so y x e)))
-        go ih (inr e) = rw (e, ih)
+    place_out (y ∷ ys) x n = grind (arith, place_out ys x, dec.so)
 
     pub place_at : (xs : List A) (i : ℕ) (d : A) → Distinct xs → i < length xs → place same xs (get_or xs i d) ≡ i
     place_at xs i d h l = let p = place_in xs (get_or xs i d) d (in_get_d xs i d l) in distinct_at xs (place same xs (get_or xs i d)) i d h p.0 l p.1
 
-    pub in_add : (b : List A) (x y : A) → In x (add same b y) → In x b ⊎ (y ≡ x)
-    in_add b x y i = go (has same b y) i
-      where
-        last : In x b ⊎ In x (y ∷ []) → In x b ⊎ (y ≡ x)
-        last (inl j) = inl j
-        last (inr (inl e)) = inr e
-        last (inr (inr j)) = absurd j
+    in_add : (b : List A) (x y : A) → In x (add same b y) → In x b ⊎ (y ≡ x)
+    in_add b x y i = grind (arith, in_split x b (y ∷ []))
 
-        go : (t : Bool) → In x (cond t b (b ++ y ∷ [])) → In x b ⊎ (y ≡ x)
-        go true i = inl i
-        go false i = last (in_split x b (y ∷ []) i)
-
-    pub add_in : (b : List A) (x y : A) → In x b ⊎ (y ≡ x) → In x (add same b y)
-    add_in b x y i = go (cases_Bool (has same b y)) i
-      where
-        go : (has same b y ≡ true) ⊎ (has same b y ≡ false) → In x b ⊎ (y ≡ x) → In x (add same b y)
-        go (inl h) (inl j) = rw h j
-        go (inl h) (inr e) = rw h (subst (λ (z : A). In z b) e (has_in b y h))
-        go (inr h) (inl j) = rw h (in_left x b (y ∷ []) j)
-        go (inr h) (inr e) = rw h (in_right x b (y ∷ []) (inl e))
+    add_in : (b : List A) (x y : A) → In x b ⊎ (y ≡ x) → In x (add same b y)
+    add_in b x y i = grind (arith, has_in b y, in_left x b (y ∷ []), in_right x b (y ∷ []))
 
     pub in_add_all : (b ys : List A) (x : A) → In x (add_all same b ys) → In x b ⊎ In x ys
     in_add_all b [] x i = inl i
-    in_add_all b (y ∷ ys) x i = go (in_add_all (add same b y) ys x i)
-      where
-        both : In x b ⊎ (y ≡ x) → In x b ⊎ In x (y ∷ ys)
-        both (inl j) = inl j
-        both (inr e) = inr (inl e)
-
-        go : In x (add same b y) ⊎ In x ys → In x b ⊎ In x (y ∷ ys)
-        go (inl j) = both (in_add b x y j)
-        go (inr j) = inr (inr j)
+    in_add_all b (y ∷ ys) x i = grind (arith, in_add_all (add same b y) ys x i, in_add b x y)
 
     pub add_all_in : (b ys : List A) (x : A) → In x b ⊎ In x ys → In x (add_all same b ys)
-    add_all_in b [] x (inl j) = j
-    add_all_in b [] x (inr j) = absurd j
-    add_all_in b (y ∷ ys) x (inl j) = add_all_in (add same b y) ys x (inl (add_in b x y (inl j)))
-    add_all_in b (y ∷ ys) x (inr (inl e)) = add_all_in (add same b y) ys x (inl (add_in b x y (inr e)))
-    add_all_in b (y ∷ ys) x (inr (inr j)) = add_all_in (add same b y) ys x (inr j)
+    add_all_in b [] x i = grind arith
+    add_all_in b (y ∷ ys) x i = grind (arith, add_all_in (add same b y) ys x, add_in b x y)
 
-    pub distinct_add : (b : List A) (y : A) → Distinct b → Distinct (add same b y)
-    distinct_add b y d = go (cases_Bool (has same b y))
-      where
-        go : (has same b y ≡ true) ⊎ (has same b y ≡ false) → Distinct (add same b y)
-        go (inl h) = rw h d
-        go (inr h) = rw h (distinct_push b y d (not_in b y h))
+    distinct_add : (b : List A) (y : A) → Distinct b → Distinct (add same b y)
+    distinct_add b y d = grind (arith, distinct_push b y, not_in b y)
 
     pub distinct_add_all : (b ys : List A) → Distinct b → Distinct (add_all same b ys)
     distinct_add_all b [] d = d
@@ -192,126 +114,89 @@ module _ {A : Type 0} where
 
     -- what is there stays in its place
     pub add_longer : (b : List A) (y : A) → (r : List A) × (add same b y ≡ b ++ r)
-    add_longer b y = go (has same b y)
-      where
-        go : (t : Bool) → (r : List A) × (cond t b (b ++ y ∷ []) ≡ b ++ r)
-        go true = ([], sym (append-nil b))
-        go false = (y ∷ [], refl)
+    add_longer b y = (cond (has same b y) [] (y ∷ []), grind (arith, append-nil b))
 
     pub add_all_longer : (b ys : List A) → (r : List A) × (add_all same b ys ≡ b ++ r)
     add_all_longer b [] = ([], sym (append-nil b))
-    add_all_longer b (y ∷ ys) =
-        let p = add_longer b y in let q = add_all_longer (add same b y) ys in
-        (p.0 ++ q.0, q.1 ∙ ap (λ (z : List A). z ++ q.0) p.1 ∙ append_assoc b p.0 q.0)
+    add_all_longer b (y ∷ ys) = let p = add_longer b y in let q = add_all_longer (add same b y) ys in (p.0 ++ q.0, cc (p.1, q.1, append_assoc b p.0 q.0))
 
 -- the tails, by what stands before them
 pub tail_in : {A : Type 0} (fs t : List A) → In t (tails fs) → (pre : List A) × (fs ≡ pre ++ t) × (t ≡ [] → ⊥)
 tail_in [] t i = absurd i
-tail_in (x ∷ xs) t i = go (tail_in xs t) (in_split t (tails xs) ((x ∷ xs) ∷ []) i)
-  where
-    go : (In t (tails xs) → (pre : List _) × (xs ≡ pre ++ t) × (t ≡ [] → ⊥)) → In t (tails xs) ⊎ In t ((x ∷ xs) ∷ []) → (pre : List _) × (x ∷ xs ≡ pre ++ t) × (t ≡ [] → ⊥)
-    go ih (inl j) = let p = ih j in (x ∷ p.0, ap (λ (z : List _). x ∷ z) p.1, p.2)
-    go ih (inr (inl e)) = ([], e, λ n. true≢false (cc))
-    go ih (inr (inr j)) = absurd j
+tail_in (x ∷ xs) t i = elim (in_split t (tails xs) ((x ∷ xs) ∷ []) i) [
+  | inl j ↦ let p = tail_in xs t j in (x ∷ p.0, cc p.1, p.2)
+  | inr (inl e) ↦ ([], e, λ n. cc)
+  | inr (inr j) ↦ absurd j
+]
 
-tail_at : {A : Type 0} (pre t : List A) → (t ≡ [] → ⊥) → In t (tails (pre ++ t))
-tail_at [] [] n = absurd (n refl)
-tail_at [] (x ∷ xs) n = in_right (x ∷ xs) (tails xs) ((x ∷ xs) ∷ []) (inl refl)
-tail_at (y ∷ pre) t n = in_left t (tails (pre ++ t)) ((y ∷ (pre ++ t)) ∷ []) (tail_at pre t n)
+pub in_tail : {A : Type 0} (pre t : List A) → (t ≡ [] → ⊥) → In t (tails (pre ++ t))
+in_tail [] [] n = absurd (n refl)
+in_tail [] (x ∷ xs) n = in_right (x ∷ xs) (tails xs) ((x ∷ xs) ∷ []) (inl refl)
+in_tail (y ∷ pre) t n = in_left t (tails (pre ++ t)) ((y ∷ (pre ++ t)) ∷ []) (in_tail pre t n)
 
-pub in_tail : {A : Type 0} (fs t pre : List A) → fs ≡ pre ++ t → (t ≡ [] → ⊥) → In t (tails fs)
-in_tail fs t pre e n = rw e (tail_at pre t n)
+-- Of two lists, by a step for each two that stand at one place.
+pub by_zip : {A B : Type 0} (R : A → B → Type 0) (P : List A → List B → Type 0) → P [] []
+    → ((x : A) (u : B) (xs : List A) (us : List B) → R x u → AllZip R xs us → P xs us → P (x ∷ xs) (u ∷ us)) → (xs : List A) (us : List B) → AllZip R xs us → P xs us
+by_zip R P n s [] [] a = n
+by_zip R P n s (x ∷ xs) (u ∷ us) a = s x u xs us a.0 a.1 (by_zip R P n s xs us a.1)
+by_zip R P n s xs us a = absurd a
 
 -- A map that keeps the tests keeps what is made by them.
 module _ {A B : Type 0} (sameA : A → A → Bool) (sameB : B → B → Bool) (R : A → B → Type 0)
     (keep : (x y : A) (u v : B) → R x u → R y v → sameA x y ≡ sameB u v) where
-  pub has2 : (xs : List A) (us : List B) (y : A) (v : B) → All2 R xs us → R y v → has sameA xs y ≡ has sameB us v
-  has2 [] [] y v a r = refl
-  has2 [] (u ∷ us) y v a r = absurd a
-  has2 (x ∷ xs) [] y v a r = absurd a
-  has2 (x ∷ xs) (u ∷ us) y v a r = ap₂ ◌||◌ (keep x y u v a.0 r) (has2 xs us y v a.1 r)
+  pub has2 : (xs : List A) (us : List B) (y : A) (v : B) → AllZip R xs us → R y v → has sameA xs y ≡ has sameB us v
+  has2 xs us y v a r = by_zip R (λ ps qs. has sameA ps y ≡ has sameB qs v) refl (λ x u ps qs p b ih. ap₂ ◌||◌ (keep x y u v p r) ih) xs us a
 
-  pub place2 : (xs : List A) (us : List B) (y : A) (v : B) → All2 R xs us → R y v → place sameA xs y ≡ place sameB us v
-  place2 [] [] y v a r = refl
-  place2 [] (u ∷ us) y v a r = absurd a
-  place2 (x ∷ xs) [] y v a r = absurd a
-  place2 (x ∷ xs) (u ∷ us) y v a r = rw (keep x y u v a.0 r, place2 xs us y v a.1 r)
+  pub place2 : (xs : List A) (us : List B) (y : A) (v : B) → AllZip R xs us → R y v → place sameA xs y ≡ place sameB us v
+  place2 xs us y v a r = by_zip R (λ ps qs. place sameA ps y ≡ place sameB qs v) refl (λ x u ps qs p b ih. rw (keep x y u v p r, ih)) xs us a
 
-  pub push2 : (xs : List A) (us : List B) (y : A) (v : B) → All2 R xs us → R y v → All2 R (xs ++ y ∷ []) (us ++ v ∷ [])
-  push2 [] [] y v a r = (r, tt)
-  push2 [] (u ∷ us) y v a r = absurd a
-  push2 (x ∷ xs) [] y v a r = absurd a
-  push2 (x ∷ xs) (u ∷ us) y v a r = (a.0, push2 xs us y v a.1 r)
-
-  pub add2 : (xs : List A) (us : List B) (y : A) (v : B) → All2 R xs us → R y v → All2 R (add sameA xs y) (add sameB us v)
-  add2 xs us y v a r = go (has sameA xs y) (has sameB us v) (has2 xs us y v a r)
+  add2 : (xs : List A) (us : List B) (y : A) (v : B) → AllZip R xs us → R y v → AllZip R (add sameA xs y) (add sameB us v)
+  add2 xs us y v a r = rw (has2 xs us y v a r) (cond_zip (has sameB us v))
     where
-      go : (p q : Bool) → p ≡ q → All2 R (cond p xs (xs ++ y ∷ [])) (cond q us (us ++ v ∷ []))
-      go true true e = a
-      go false false e = push2 xs us y v a r
-      go true false e = absurd (true≢false e)
-      go false true e = absurd (true≢false (sym e))
+      cond_zip : (t : Bool) → AllZip R (cond t xs (xs ++ y ∷ [])) (cond t us (us ++ v ∷ []))
+      cond_zip true = a
+      cond_zip false = all_zipped_more R xs us y v a r
 
-  pub add_all2 : (xs : List A) (us : List B) (ys : List A) (vs : List B) → All2 R xs us → All2 R ys vs → All2 R (add_all sameA xs ys) (add_all sameB us vs)
-  add_all2 xs us [] [] a r = a
-  add_all2 xs us [] (v ∷ vs) a r = absurd r
-  add_all2 xs us (y ∷ ys) [] a r = absurd r
-  add_all2 xs us (y ∷ ys) (v ∷ vs) a r = add_all2 (add sameA xs y) (add sameB us v) ys vs (add2 xs us y v a r.0) r.1
+  pub add_all2 : (xs : List A) (us : List B) (ys : List A) (vs : List B) → AllZip R xs us → AllZip R ys vs → AllZip R (add_all sameA xs ys) (add_all sameB us vs)
+  add_all2 xs us ys vs a r =
+      by_zip R (λ ps qs. (xs : List A) (us : List B) → AllZip R xs us → AllZip R (add_all sameA xs ps) (add_all sameB us qs)) (λ xs us a. a)
+      (λ y v ps qs p b ih xs us a. ih (add sameA xs y) (add sameB us v) (add2 xs us y v a p)) ys vs r xs us a
 
-pub long2 : {A B : Type 0} (R : A → B → Type 0) (xs : List A) (us : List B) → All2 R xs us → length xs ≡ length us
-long2 R [] [] a = refl
-long2 R [] (u ∷ us) a = absurd a
-long2 R (x ∷ xs) [] a = absurd a
-long2 R (x ∷ xs) (u ∷ us) a = ap suc (long2 R xs us a.1)
+  pub same_list2 : (xs ys : List A) (us vs : List B) → AllZip R xs us → AllZip R ys vs → same_list sameA xs ys ≡ same_list sameB us vs
+  same_list2 xs ys us vs a b =
+      by_zip R (λ ps qs. (ys : List A) (vs : List B) → AllZip R ys vs → same_list sameA ps ys ≡ same_list sameB qs vs)
+      (by_zip R (λ ys vs. same_list sameA [] ys ≡ same_list sameB [] vs) refl (λ y v ys vs q d ih. refl))
+      (λ x u ps qs p c ih. by_zip R (λ ys vs. same_list sameA (x ∷ ps) ys ≡ same_list sameB (u ∷ qs) vs) refl (λ y v ys vs q d jh. ap₂ ◌&&◌ (keep x y u v p q) (ih ys vs d)))
+      xs us a ys vs b
 
-pub weaken2 : {A B : Type 0} (R S : A → B → Type 0) (xs : List A) (us : List B) → ((x : A) (u : B) → R x u → S x u) → All2 R xs us → All2 S xs us
-weaken2 R S [] [] f a = tt
-weaken2 R S [] (u ∷ us) f a = absurd a
-weaken2 R S (x ∷ xs) [] f a = absurd a
-weaken2 R S (x ∷ xs) (u ∷ us) f a = (f x u a.0, weaken2 R S xs us f a.1)
+pub weaken2 : {A B : Type 0} (R S : A → B → Type 0) (xs : List A) (us : List B) → ((x : A) (u : B) → R x u → S x u) → AllZip R xs us → AllZip S xs us
+weaken2 R S xs us f a = by_zip R (AllZip S) tt (λ x u ps qs p b ih. (f x u p, ih)) xs us a
 
 -- tails of related lists are related
-pub append2 : {A B : Type 0} (R : A → B → Type 0) (xs : List A) (us : List B) (ys : List A) (vs : List B) → All2 R xs us → All2 R ys vs → All2 R (xs ++ ys) (us ++ vs)
-append2 R [] [] ys vs a b = b
-append2 R [] (u ∷ us) ys vs a b = absurd a
-append2 R (x ∷ xs) [] ys vs a b = absurd a
-append2 R (x ∷ xs) (u ∷ us) ys vs a b = (a.0, append2 R xs us ys vs a.1 b)
-
-pub tails2 : {A B : Type 0} (R : A → B → Type 0) (xs : List A) (us : List B) → All2 R xs us → All2 (All2 R) (tails xs) (tails us)
-tails2 R [] [] a = tt
-tails2 R [] (u ∷ us) a = absurd a
-tails2 R (x ∷ xs) [] a = absurd a
-tails2 R (x ∷ xs) (u ∷ us) a = append2 (All2 R) (tails xs) (tails us) ((x ∷ xs) ∷ []) ((u ∷ us) ∷ []) (tails2 R xs us a.1) (a, tt)
-
-pub same_list2 : {A B : Type 0} (sameA : A → A → Bool) (sameB : B → B → Bool) (R : A → B → Type 0)
-    (keep : (x y : A) (u v : B) → R x u → R y v → sameA x y ≡ sameB u v)
-    (xs ys : List A) (us vs : List B) → All2 R xs us → All2 R ys vs → same_list sameA xs ys ≡ same_list sameB us vs
-same_list2 sameA sameB R keep [] [] [] [] a b = refl
-same_list2 sameA sameB R keep [] [] [] (v ∷ vs) a b = absurd b
-same_list2 sameA sameB R keep [] [] (u ∷ us) vs a b = absurd a
-same_list2 sameA sameB R keep [] (y ∷ ys) [] [] a b = absurd b
-same_list2 sameA sameB R keep [] (y ∷ ys) [] (v ∷ vs) a b = refl
-same_list2 sameA sameB R keep [] (y ∷ ys) (u ∷ us) vs a b = absurd a
-same_list2 sameA sameB R keep (x ∷ xs) ys [] vs a b = absurd a
-same_list2 sameA sameB R keep (x ∷ xs) [] (u ∷ us) [] a b = refl
-same_list2 sameA sameB R keep (x ∷ xs) [] (u ∷ us) (v ∷ vs) a b = absurd b
-same_list2 sameA sameB R keep (x ∷ xs) (y ∷ ys) (u ∷ us) [] a b = absurd b
-same_list2 sameA sameB R keep (x ∷ xs) (y ∷ ys) (u ∷ us) (v ∷ vs) a b = ap₂ ◌&&◌ (keep x y u v a.0 b.0) (same_list2 sameA sameB R keep xs ys us vs a.1 b.1)
+pub tails2 : {A B : Type 0} (R : A → B → Type 0) (xs : List A) (us : List B) → AllZip R xs us → AllZip (AllZip R) (tails xs) (tails us)
+tails2 R xs us a =
+    by_zip R (λ ps qs. AllZip (AllZip R) (tails ps) (tails qs)) tt (λ x u ps qs p b ih. all_zipped_more (AllZip R) (tails ps) (tails qs) (x ∷ ps) (u ∷ qs) ih (p, b)) xs us a
 
 -- equal images, one for one
-pub map2 : {A B C : Type 0} (R : A → B → Type 0) (f : A → C) (g : B → C) → ((x : A) (u : B) → R x u → g u ≡ f x) → (xs : List A) (us : List B) → All2 R xs us → map g us ≡ map f xs
-map2 R f g h [] [] a = refl
-map2 R f g h [] (u ∷ us) a = absurd a
-map2 R f g h (x ∷ xs) [] a = absurd a
-map2 R f g h (x ∷ xs) (u ∷ us) a = ap₂ ◌∷◌ (h x u a.0) (map2 R f g h xs us a.1)
+pub map2 : {A B C : Type 0} (R : A → B → Type 0) (f : A → C) (g : B → C) → ((x : A) (u : B) → R x u → g u ≡ f x) → (xs : List A) (us : List B) → AllZip R xs us → map g us ≡ map f xs
+map2 R f g h xs us a = by_zip R (λ ps qs. map g qs ≡ map f ps) refl (λ x u ps qs p b ih. ap₂ ◌∷◌ (h x u p) ih) xs us a
 
-pub get_or2 : {A B : Type 0} (R : A → B → Type 0) (xs : List A) (us : List B) (i : ℕ) (d : A) (e : B) → i < length xs → All2 R xs us → R (get_or xs i d) (get_or us i e)
-get_or2 R [] us i d e l a = absurd (omega arith)
-get_or2 R (x ∷ xs) [] i d e l a = absurd a
+pub get_or2 : {A B : Type 0} (R : A → B → Type 0) (xs : List A) (us : List B) (i : ℕ) (d : A) (e : B) → i < length xs → AllZip R xs us → R (get_or xs i d) (get_or us i e)
 get_or2 R (x ∷ xs) (u ∷ us) zero d e l a = a.0
 get_or2 R (x ∷ xs) (u ∷ us) (suc i) d e l a = get_or2 R xs us i d e (omega arith) a.1
+get_or2 R (x ∷ xs) [] i d e l a = absurd a
+get_or2 R [] us i d e l a = absurd (omega arith)
 
 pub map_in : {A B : Type 0} (f : A → B) (y : B) (xs : List A) → In y (map f xs) → (x : A) × In x xs × (f x ≡ y)
 map_in f y [] i = absurd i
-map_in f y (x ∷ xs) (inl e) = (x, inl refl, e)
-map_in f y (x ∷ xs) (inr i) = let p = map_in f y xs i in (p.0, inr p.1, p.2)
+map_in f y (x ∷ xs) i = grind (arith, map_in f y xs)
+
+-- what stands in lists joined end to end
+pub in_flat : {A B : Type 0} (f : A → List B) (y : B) (x : A) (xs : List A) → In x xs → In y (f x) → In y (flat_map f xs)
+in_flat f y x [] i j = absurd i
+in_flat f y x (z ∷ xs) (inl e) j = in_left y (f z) (flat_map f xs) (rw e j)
+in_flat f y x (z ∷ xs) (inr i) j = in_right y (f z) (flat_map f xs) (in_flat f y x xs i j)
+
+pub flat_in : {A B : Type 0} (f : A → List B) (y : B) (xs : List A) → In y (flat_map f xs) → (x : A) × In x xs × In y (f x)
+flat_in f y [] i = absurd i
+flat_in f y (z ∷ xs) i = elim (in_split y (f z) (flat_map f xs) i) [ inl j ↦ (z, inl refl, j) | inr j ↦ let p = flat_in f y xs j in (p.0, inr p.1, p.2) ]

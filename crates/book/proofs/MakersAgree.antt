@@ -1,19 +1,20 @@
 -- The makers, test by test, make the calls of the book over numbers.
-use Rattle.std.proofs.Common.{◌≡◌, ℕ, ◌+◌, ◌<◌, ◌≤◌, Bool, true, false, cond, ◌||◌, eqb, ltb, ◌⊎◌, List, [], ◌∷◌, ◌++◌, length, sym, refl, ap, ◌∙◌, subst, inl, inr, arith}
+use Rattle.std.proofs.Common.{◌≡◌, ℕ, ◌+◌, ◌≤◌, cond, eqb, ltb, List, [], ◌∷◌, ◌++◌, length, sym, refl, ap, ◌∙◌, inl, inr, arith}
 use mathlib.Core.Option.{none, some}
-use native.Mathlib.Decide.{dec_lt}
 use Rattle.std.proofs.lemmas.List.{length_push}
-use Rattle.std.proofs.lemmas.Bool.{cases_Bool, ltb-false, lt-ltb, le-ltb, or_right, ne_eqb}
-use Rattle.grammar.specs.Lists.{In, same_list, has, place, add, add_all, tails}
+use Rattle.std.proofs.lemmas.Bool.Decides.{nat_tests}
+use Rattle.std.proofs.lemmas.Bool.{cases_Bool}
+use Rattle.grammar.specs.Lists.{same_list, has, add, add_all, tails}
 use Rattle.book.specs.Plain.{Call, Answer, Limits, Refusing, longest_form, early, late, ◌else◌, first_at, when, empty_list}
-use Rattle.grammar.specs.Refusals.{accepted, refused}
 use Rattle.book.specs.Plain
 use Rattle.book.specs.Agree.{Room}
 use Rattle.book.specs.Nodes.{Node, array, maybe, dict, structure, same_node, enter, size_of, fields_of, tails_from, tails_of, answered, call}
 use Rattle.book.specs.Nodes
 use Rattle.book.specs.Makers
-use Rattle.book.proofs.Lists.{numbers, same_lists, has_in, not_in, add_old, add_new, add_all_old, add_all_append, add_all_in, place_in, place_out}
+use Rattle.std.specs.List.{flat_map}
+use Rattle.book.proofs.Lists.{in_flat, numbers, same_lists, has_in, not_in, add_old, add_new, add_all_old, add_all_append, add_all_in, place_in, place_out}
 use Rattle.book.proofs.NodeShapes.{same_nodes}
+use Rattle.book.proofs.Calls.{else_none, late_none}
 
 -- the tails of one list of nodes and then of another
 pub tails_append : (T : List (List ℕ)) (b r : List Node) → tails_from T (b ++ r) ≡ tails_from (tails_from T b) r
@@ -24,118 +25,55 @@ add_tails_is : (T : List (List ℕ)) (fs : List ℕ) → Makers.add_tails T fs �
 add_tails_is T [] = refl
 add_tails_is T (f ∷ fs) = ap (λ (z : List (List ℕ)). add (same_list eqb) z (f ∷ fs)) (add_tails_is T fs) ∙ sym (add_all_append (same_lists numbers) T (tails fs) ((f ∷ fs) ∷ []))
 
--- the tails of what is in the book are there
-tails_there : (T : List (List ℕ)) (b : List Node) (x : Node) → In x b → (t : List ℕ) → In t (tails (fields_of x)) → In t (tails_from T b)
-tails_there T [] x i t j = absurd i
-tails_there T (y ∷ b) x (inl e) t j =
-    let q = add_all_in (same_lists numbers) T (tails (fields_of y)) t (inr (subst (λ (z : Node). In t (tails (fields_of z))) (sym e) j)) in stay (add_all (same_list eqb) T (tails (fields_of y))) b q
-  where
-    stay : (T : List (List ℕ)) (b : List Node) → In t T → In t (tails_from T b)
-    stay T [] i = i
-    stay T (z ∷ b) i = stay (add_all (same_list eqb) T (tails (fields_of z))) b (add_all_in (same_lists numbers) T (tails (fields_of z)) t (inl i))
-tails_there T (y ∷ b) x (inr i) t j = tails_there (add_all (same_list eqb) T (tails (fields_of y))) b x i t j
+-- all tails, one list of fields after another
+tails_are : (T : List (List ℕ)) (b : List Node) → tails_from T b ≡ add_all (same_list eqb) T (flat_map (λ x. tails (fields_of x)) b)
+tails_are T [] = refl
+tails_are T (x ∷ b) =
+    tails_are (add_all (same_list eqb) T (tails (fields_of x))) b ∙ sym (add_all_append (same_lists numbers) T (tails (fields_of x)) (flat_map (λ x. tails (fields_of x)) b))
 
 abbrev after : Limits → List Node → Node → Answer × List Node
 after limits b x = answered b (enter b x) (late limits (record { size = size_of b x; types = length (add same_node b x); fields = length (tails_of (add same_node b x)) }))
 
 -- the tails with x
 tails_with : (b : List Node) (x : Node) → tails_of (add same_node b x) ≡ add_all (same_list eqb) (tails_of b) (tails (fields_of x))
-tails_with b x = go (cases_Bool (has same_node b x))
-  where
-    go : (has same_node b x ≡ true) ⊎ (has same_node b x ≡ false) → tails_of (add same_node b x) ≡ add_all (same_list eqb) (tails_of b) (tails (fields_of x))
-    go (inl h) = ap tails_of (add_old same_nodes b x (has_in same_nodes b x h)) ∙ sym (add_all_old (same_lists numbers) (tails_of b) (tails (fields_of x)) (tails_there [] b x (has_in same_nodes b x h)))
-    go (inr h) = ap tails_of (add_new same_nodes b x (not_in same_nodes b x h)) ∙ tails_append [] b (x ∷ [])
+tails_with b x = elim (cases_Bool (has same_node b x)) [
+  | inl h ↦ let i = has_in same_nodes b x h in rw (add_old same_nodes b x i, add_all_old (same_lists numbers) (tails_of b) (tails (fields_of x)) (λ t j. rw (tails_are [] b) (add_all_in (same_lists numbers) [] (flat_map (λ x. tails (fields_of x)) b) t (inr (in_flat (λ x. tails (fields_of x)) t x b i j)))))
+  | inr h ↦ rw (add_new same_nodes b x (not_in same_nodes b x h)) (tails_append [] b (x ∷ []))
+]
 
 module _ (limits : Limits) (b : List Node) (x : Node) (room : Room limits b) where
   -- where the tails fit
   entered : length (tails_of (add same_node b x)) ≤ limits.fields → Makers.sized limits.types b x ≡ after limits b x
   unfolding Makers.placed
-  entered f = go (cases_Bool (ltb longest_form (size_of b x))) (cases_Bool (has same_node b x))
-    where
-      nofields : ltb limits.fields (length (tails_of (add same_node b x))) ≡ false
-      nofields = le-ltb limits.fields (length (tails_of (add same_node b x))) f
-
-      go : (ltb longest_form (size_of b x) ≡ true) ⊎ (ltb longest_form (size_of b x) ≡ false) → (has same_node b x ≡ true) ⊎ (has same_node b x ≡ false) → Makers.sized limits.types b x ≡ after limits b x
-      go (inl s) h = rw s
-      go (inr s) (inl h) =
-          let i = has_in same_nodes b x h in
-          let p = place_in same_nodes b x x i in
-          let r = room.types in
-          rw (s, nofields) (rw (add_old same_nodes b x i, lt-ltb (place same_node b x) (length b) p.0, le-ltb limits.types (length b) r))
-      go (inr s) (inr h) = let n = not_in same_nodes b x h in rw (s, nofields) (rw (place_out same_nodes b x n, add_new same_nodes b x n, le-ltb (length b) (length b) (omega arith)) (cap (dec_lt (length b) limits.types)))
-        where
-          cap : Dec (length b < limits.types) → cond (ltb (length b) limits.types) (accepted (15 + length b), b ++ x ∷ []) (refused 8 [], b)
-              ≡ answered b (15 + length b, b ++ x ∷ []) (when (ltb limits.types (length (b ++ x ∷ [])) || false) 8)
-          cap (yes l) = rw (lt-ltb (length b) limits.types l, le-ltb limits.types (length (b ++ x ∷ [])) (omega (arith, length_push b x)))
-          cap (no n) = rw (le-ltb (length b) limits.types (omega arith), lt-ltb limits.types (length (b ++ x ∷ [])) (omega (arith, length_push b x)))
+  entered f = elim (cases_Bool (has same_node b x)) [
+    | inl h ↦ let i = has_in same_nodes b x h in grind (arith, nat_tests, place_in same_nodes b x x i, add_old same_nodes b x i, room.types)
+    | inr h ↦ let n = not_in same_nodes b x h in grind (arith, nat_tests, place_out same_nodes b x n, add_new same_nodes b x n, length_push b x)
+  ]
 
 bare_fits : (limits : Limits) (b : List Node) (x : Node) → Room limits b → fields_of x ≡ [] → length (tails_of (add same_node b x)) ≤ limits.fields
 bare_fits limits b x room e = let r = room.fields in omega (arith, ap length (tails_with b x ∙ ap (λ (z : List ℕ). add_all (same_list eqb) (tails_of b) (tails z)) e))
 
-known_or : (m n : ℕ) → ((ltb n (15 + m) ≡ true) × (ltb (14 + m) n ≡ false)) ⊎ ((ltb n (15 + m) ≡ false) × (ltb (14 + m) n ≡ true))
-known_or m n = go (dec_lt n (15 + m))
-  where
-    go : Dec (n < 15 + m) → ((ltb n (15 + m) ≡ true) × (ltb (14 + m) n ≡ false)) ⊎ ((ltb n (15 + m) ≡ false) × (ltb (14 + m) n ≡ true))
-    go (yes l) = inl (lt-ltb n (15 + m) l, le-ltb (14 + m) n (omega arith))
-    go (no g) = inr (le-ltb n (15 + m) (omega arith), lt-ltb (14 + m) n (omega arith))
-
 module _ (limits : Limits) (b : List Node) (room : Room limits b) where
   pub array_same : (n : ℕ) → Makers.array_call limits.types b n ≡ call limits b (Plain.array n)
   unfolding call
-  array_same n = go (known_or (length b) n) (cases_Bool (eqb n 0))
-    where
-      go : ((ltb n (15 + length b) ≡ true) × (ltb (14 + length b) n ≡ false)) ⊎ ((ltb n (15 + length b) ≡ false) × (ltb (14 + length b) n ≡ true)) → (eqb n 0 ≡ true) ⊎ (eqb n 0 ≡ false)
-          → Makers.array_call limits.types b n ≡ call limits b (Plain.array n)
-      go (inr k) z = rw (k.0, k.1)
-      go (inl k) (inl z) = rw (k.0, k.1) (rw z)
-      go (inl k) (inr z) = rw (k.0, k.1) (rw z (entered limits b (array n) room (bare_fits limits b (array n) room refl)))
+  array_same n = grind (arith, nat_tests, entered limits b (array n) room (bare_fits limits b (array n) room refl))
 
   pub maybe_same : (n : ℕ) → Makers.maybe_call limits.types b n ≡ call limits b (Plain.maybe n)
   unfolding call
-  maybe_same n = go (known_or (length b) n) (cases_Bool (eqb n 0))
-    where
-      go : ((ltb n (15 + length b) ≡ true) × (ltb (14 + length b) n ≡ false)) ⊎ ((ltb n (15 + length b) ≡ false) × (ltb (14 + length b) n ≡ true)) → (eqb n 0 ≡ true) ⊎ (eqb n 0 ≡ false)
-          → Makers.maybe_call limits.types b n ≡ call limits b (Plain.maybe n)
-      go (inr k) z = rw (k.0, k.1)
-      go (inl k) (inl z) = rw (k.0, k.1) (rw z)
-      go (inl k) (inr z) = rw (k.0, k.1) (rw z (entered limits b (maybe n) room (bare_fits limits b (maybe n) room refl)))
+  maybe_same n = grind (arith, nat_tests, entered limits b (maybe n) room (bare_fits limits b (maybe n) room refl))
 
   pub dict_same : (n m : ℕ) → Makers.dict_call limits.types b n m ≡ call limits b (Plain.dict n m)
   unfolding call
-  dict_same n m = go (known_or (length b) n) (known_or (length b) m) (cases_Bool (eqb n 0)) (cases_Bool (eqb m 0))
-    where
-      go : ((ltb n (15 + length b) ≡ true) × (ltb (14 + length b) n ≡ false)) ⊎ ((ltb n (15 + length b) ≡ false) × (ltb (14 + length b) n ≡ true))
-          → ((ltb m (15 + length b) ≡ true) × (ltb (14 + length b) m ≡ false)) ⊎ ((ltb m (15 + length b) ≡ false) × (ltb (14 + length b) m ≡ true))
-          → (eqb n 0 ≡ true) ⊎ (eqb n 0 ≡ false) → (eqb m 0 ≡ true) ⊎ (eqb m 0 ≡ false)
-          → Makers.dict_call limits.types b n m ≡ call limits b (Plain.dict n m)
-      go (inr k) l y z = rw (k.0, k.1)
-      go (inl k) (inr l) y z = rw (k.0, k.1) (rw (l.0, l.1))
-      go (inl k) (inl l) (inl y) z = rw (k.0, k.1) (rw (l.0, l.1) (rw y))
-      go (inl k) (inl l) (inr y) (inl z) = rw (k.0, k.1) (rw (l.0, l.1) (rw y (rw z)))
-      go (inl k) (inl l) (inr y) (inr z) = rw (k.0, k.1) (rw (l.0, l.1) (rw y (rw z (entered limits b (dict n m) room (bare_fits limits b (dict n m) room refl)))))
+  dict_same n m = grind (arith, nat_tests, entered limits b (dict n m) room (bare_fits limits b (dict n m) room refl))
 
 -- positions
 first_unknown : (m : ℕ) (fs : List ℕ) → first_at (λ n. ltb (14 + m) n) fs ≡ cond (ltb (Makers.unknown_at (15 + m) fs) (length fs)) (some (Makers.unknown_at (15 + m) fs)) none
 first_unknown m [] = refl
-first_unknown m (f ∷ fs) = go (known_or m f) (first_unknown m fs) (dec_lt (Makers.unknown_at (15 + m) fs) (length fs))
-  where
-    go : ((ltb f (15 + m) ≡ true) × (ltb (14 + m) f ≡ false)) ⊎ ((ltb f (15 + m) ≡ false) × (ltb (14 + m) f ≡ true))
-        → first_at (λ n. ltb (14 + m) n) fs ≡ cond (ltb (Makers.unknown_at (15 + m) fs) (length fs)) (some (Makers.unknown_at (15 + m) fs)) none
-        → Dec (Makers.unknown_at (15 + m) fs < length fs)
-        → first_at (λ n. ltb (14 + m) n) (f ∷ fs) ≡ cond (ltb (Makers.unknown_at (15 + m) (f ∷ fs)) (length (f ∷ fs))) (some (Makers.unknown_at (15 + m) (f ∷ fs))) none
-    go (inr k) ih d = rw (k.0, k.1) (rw (lt-ltb 0 (length (f ∷ fs)) (omega arith)))
-    go (inl k) ih (yes l) = rw (k.0, k.1) (rw ih (rw (lt-ltb (Makers.unknown_at (15 + m) fs) (length fs) l, lt-ltb (Makers.unknown_at (15 + m) fs + 1) (length (f ∷ fs)) (omega arith))))
-    go (inl k) ih (no l) = rw (k.0, k.1) (rw ih (rw (le-ltb (Makers.unknown_at (15 + m) fs) (length fs) (omega arith), le-ltb (Makers.unknown_at (15 + m) fs + 1) (length (f ∷ fs)) (omega arith))))
+first_unknown m (f ∷ fs) = grind (arith, nat_tests, first_unknown m fs)
 
 first_unit : (fs : List ℕ) → first_at (λ n. eqb n 0) fs ≡ cond (ltb (Makers.unit_at fs) (length fs)) (some (Makers.unit_at fs)) none
 first_unit [] = refl
-first_unit (f ∷ fs) = go (cases_Bool (eqb f 0)) (first_unit fs) (dec_lt (Makers.unit_at fs) (length fs))
-  where
-    go : (eqb f 0 ≡ true) ⊎ (eqb f 0 ≡ false) → first_at (λ n. eqb n 0) fs ≡ cond (ltb (Makers.unit_at fs) (length fs)) (some (Makers.unit_at fs)) none → Dec (Makers.unit_at fs < length fs)
-        → first_at (λ n. eqb n 0) (f ∷ fs) ≡ cond (ltb (Makers.unit_at (f ∷ fs)) (length (f ∷ fs))) (some (Makers.unit_at (f ∷ fs))) none
-    go (inl k) ih d = rw k (rw (lt-ltb 0 (length (f ∷ fs)) (omega arith)))
-    go (inr k) ih (yes l) = rw k (rw ih (rw (lt-ltb (Makers.unit_at fs) (length fs) l, lt-ltb (Makers.unit_at fs + 1) (length (f ∷ fs)) (omega arith))))
-    go (inr k) ih (no l) = rw k (rw ih (rw (le-ltb (Makers.unit_at fs) (length fs) (omega arith), le-ltb (Makers.unit_at fs + 1) (length (f ∷ fs)) (omega arith))))
+first_unit (f ∷ fs) = grind (arith, nat_tests, first_unit fs)
 
 -- a call with the tails after it
 abbrev pub triple : Answer × List Node → Answer × List Node × List (List ℕ)
@@ -145,55 +83,17 @@ module _ (limits : Limits) (b : List Node) (room : Room limits b) where
   same_tails : (fs : List ℕ) → Makers.add_tails (tails_of b) fs ≡ tails_of (add same_node b (structure fs))
   same_tails fs = add_tails_is (tails_of b) fs ∙ sym (tails_with b (structure fs))
 
-  structure_after : (fs : List ℕ) → ltb longest_form (size_of b (structure fs)) ≡ false → Makers.structure_placed limits.types limits.fields b (tails_of b) fs ≡ triple (after limits b (structure fs))
-  structure_after fs s = go (cases_Bool (ltb limits.fields (length (Makers.add_tails (tails_of b) fs))))
-    where
-      end : (o : Refusing) → Makers.kept (answered b (enter b (structure fs)) o).0 b (answered b (enter b (structure fs)) o).1 (tails_of b) (Makers.add_tails (tails_of b) fs) ≡ triple (answered b (enter b (structure fs)) o)
-      end none = ap (λ (z : List (List ℕ)). (accepted (15 + place same_node b (structure fs)), add same_node b (structure fs), z)) (same_tails fs)
-      end (some e) = refl
-
-      go : (ltb limits.fields (length (Makers.add_tails (tails_of b) fs)) ≡ true) ⊎ (ltb limits.fields (length (Makers.add_tails (tails_of b) fs)) ≡ false)
-          → Makers.structure_placed limits.types limits.fields b (tails_of b) fs ≡ triple (after limits b (structure fs))
-      go (inl f) =
-          let g : (ltb limits.types (length (add same_node b (structure fs))) || ltb limits.fields (length (tails_of (add same_node b (structure fs))))) ≡ true
-          = or_right (ltb limits.types (length (add same_node b (structure fs)))) (ltb limits.fields (length (tails_of (add same_node b (structure fs))))) (ap (λ (z : List (List ℕ)). ltb limits.fields (length z)) (sym (same_tails fs)) ∙ f) in
-          rw (f, s, g)
-      go (inr f) =
-          let l : length (tails_of (add same_node b (structure fs))) ≤ limits.fields = ltb-false limits.fields (length (tails_of (add same_node b (structure fs)))) (ap (λ (z : List (List ℕ)). ltb limits.fields (length z)) (sym (same_tails fs)) ∙ f) in
-          rw f (ap (λ (r : Answer × List Node). Makers.kept r.0 b r.1 (tails_of b) (Makers.add_tails (tails_of b) fs)) (entered limits b (structure fs) room l)
-          ∙ end (late limits (record { size = size_of b (structure fs); types = length (add same_node b (structure fs)); fields = length (tails_of (add same_node b (structure fs))) })))
-
-  structure_full : (fs : List ℕ) → empty_list (Plain.structure fs) ≡ none → eqb (length fs) 0 ≡ false
-      → Makers.structure_call limits.types limits.fields b (tails_of b) fs ≡ triple (call limits b (Plain.structure fs))
-  unfolding call
-  structure_full fs n z = go (cases_Bool (ltb (Makers.unknown_at (15 + length b) fs) (length fs))) (cases_Bool (ltb (Makers.unit_at fs) (length fs))) (cases_Bool (ltb longest_form (size_of b (structure fs))))
-    where
-      go : (ltb (Makers.unknown_at (15 + length b) fs) (length fs) ≡ true) ⊎ (ltb (Makers.unknown_at (15 + length b) fs) (length fs) ≡ false)
-          → (ltb (Makers.unit_at fs) (length fs) ≡ true) ⊎ (ltb (Makers.unit_at fs) (length fs) ≡ false)
-          → (ltb longest_form (size_of b (structure fs)) ≡ true) ⊎ (ltb longest_form (size_of b (structure fs)) ≡ false)
-          → Makers.structure_call limits.types limits.fields b (tails_of b) fs ≡ triple (call limits b (Plain.structure fs))
-      go (inl u) v s = rw (first_unknown (length b) fs) (rw u)
-      go (inr u) (inl v) s = rw (first_unknown (length b) fs, first_unit fs) (rw (u, v))
-      go (inr u) (inr v) (inl s) = rw (first_unknown (length b) fs, first_unit fs) (rw (u, v, n, z, s))
-      go (inr u) (inr v) (inr s) = rw (first_unknown (length b) fs, first_unit fs) (rw (u, v, n, z) (ap (λ (t : Bool). cond t (refused 7 [], b, tails_of b) (Makers.structure_placed limits.types limits.fields b (tails_of b) fs)) s ∙ structure_after fs s))
-
   pub structure_same : (fs : List ℕ) → Makers.structure_call limits.types limits.fields b (tails_of b) fs ≡ triple (call limits b (Plain.structure fs))
   unfolding call
   structure_same [] = refl
-  structure_same (f ∷ fs) = structure_full (f ∷ fs) refl (ne_eqb (length (f ∷ fs)) 0 (omega arith))
+  structure_same (f ∷ fs) =
+      grind (arith, nat_tests, first_unknown (length b) (f ∷ fs), first_unit (f ∷ fs), same_tails (f ∷ fs), entered limits b (structure (f ∷ fs)) room)
 
 -- a book within its room stays so
 pub room_kept : (limits : Limits) (b : List Node) → Room limits b → (c : Call) → Room limits (call limits b c).1
 unfolding call
-room_kept limits b room c = go (early c (length b))
+room_kept limits b room c = go (early c (length b) else late limits (Nodes.needed b c)) refl
   where
-    end : (o : Bool) (p q : Bool) → ltb limits.types (length (Nodes.grown b c).1) ≡ p → ltb limits.fields (length (tails_of (Nodes.grown b c).1)) ≡ q
-        → Room limits (answered b (Nodes.grown b c) ((when o 7) else (when (p || q) 8))).1
-    end true p q e f = room
-    end false true q e f = room
-    end false false true e f = room
-    end false false false e f = record { types = ltb-false limits.types (length (Nodes.grown b c).1) e; fields = ltb-false limits.fields (length (tails_of (Nodes.grown b c).1)) f }
-
-    go : (o : Refusing) → Room limits (answered b (Nodes.grown b c) (o else late limits (Nodes.needed b c))).1
-    go (some e) = room
-    go none = end (ltb longest_form (Nodes.size_call b c)) (ltb limits.types (length (Nodes.grown b c).1)) (ltb limits.fields (length (tails_of (Nodes.grown b c).1))) refl refl
+    go : (o : Refusing) → (early c (length b) else late limits (Nodes.needed b c)) ≡ o → Room limits (answered b (Nodes.grown b c) o).1
+    go (some e) h = room
+    go none h = let p = late_none limits (Nodes.needed b c) (else_none _ _ h).1 in record { types = p.0; fields = p.1 }

@@ -1,5 +1,5 @@
 -- The makers, test by test, answer as the plain book does and keep what a book keeps.
-use Rattle.std.proofs.Common.{◌≡◌, ℕ, List, sym, refl, subst}
+use Rattle.std.proofs.Common.{◌≡◌, ℕ, List, refl}
 use Rattle.book.specs.Plain.{Answer, Call, Limits, call}
 use Rattle.book.specs.Plain
 use Rattle.book.specs.Nodes.{Node, texts_of, tails_of}
@@ -21,15 +21,14 @@ told limits ns g room c = let a = agrees limits ns g c in record { good = a.good
 
 module _ (limits : Limits) (ns : List Node) (g : Good ns) (room : Room limits ns) where
   pub array_told : (n : ℕ) → Told limits ns (Plain.array n) (Makers.array_call limits.types ns n)
-  array_told n = subst (Told limits ns (Plain.array n)) (sym (array_same limits ns room n)) (told limits ns g room (Plain.array n))
+  array_told n = rw (array_same limits ns room n) (told limits ns g room (Plain.array n))
 
   pub maybe_told : (n : ℕ) → Told limits ns (Plain.maybe n) (Makers.maybe_call limits.types ns n)
-  maybe_told n = subst (Told limits ns (Plain.maybe n)) (sym (maybe_same limits ns room n)) (told limits ns g room (Plain.maybe n))
+  maybe_told n = rw (maybe_same limits ns room n) (told limits ns g room (Plain.maybe n))
 
   pub dict_told : (k v : ℕ) → Told limits ns (Plain.dict k v) (Makers.dict_call limits.types ns k v)
-  dict_told k v = subst (Told limits ns (Plain.dict k v)) (sym (dict_same limits ns room k v)) (told limits ns g room (Plain.dict k v))
+  dict_told k v = rw (dict_same limits ns room k v) (told limits ns g room (Plain.dict k v))
 
   -- with the tails after it
   pub structure_told : (fs : List ℕ) → let r : Answer × List Node × List (List ℕ) = Makers.structure_call limits.types limits.fields ns (tails_of ns) fs in Told limits ns (Plain.structure fs) (r.0, r.1) × (r.2 ≡ tails_of r.1)
-  structure_told fs = subst (λ (r : Answer × List Node × List (List ℕ)). Told limits ns (Plain.structure fs) (r.0, r.1) × (r.2 ≡ tails_of r.1))
-      (sym (structure_same limits ns room fs)) (told limits ns g room (Plain.structure fs), refl)
+  structure_told fs = rw (structure_same limits ns room fs) (told limits ns g room (Plain.structure fs), refl)

@@ -1,5 +1,5 @@
 -- The shapes of numbers and of nodes: each number has its own, and keeps it as the book grows.
-use Rattle.std.proofs.Common.{◌≡◌, ℕ, ◌+◌, ◌-◌, ◌≤◌, Bool, true, false, eqb, List, [], ◌∷◌, ◌++◌, length, get_or, sym, refl, ap, ◌∙◌, ap₂, append_assoc, arith, length-append}
+use Rattle.std.proofs.Common.{◌≡◌, ℕ, ◌+◌, ◌-◌, ◌≤◌, Bool, true, eqb, List, [], ◌∷◌, ◌++◌, length, get_or, sym, refl, ap, ◌∙◌, ap₂, append_assoc, arith, length-append}
 use Rattle.std.proofs.lemmas.List.{get_or_append_left, get_or-append_right}
 use Rattle.std.proofs.lemmas.Bool.{eq-eqb}
 use Rattle.grammar.specs.Lists.{Distinct}
@@ -19,93 +19,55 @@ abbrev pub Row : List Shape → Node → Text → Type 0
 Row ss x w = Known (length ss) x × (w ≡ printed (node_shape ss x))
 
 pub bool_same : (p q : Bool) → (p ≡ true → q ≡ true) → (q ≡ true → p ≡ true) → p ≡ q
-bool_same true q f g = sym (f refl)
-bool_same false true f g = g refl
-bool_same false false f g = refl
+bool_same p q f g = grind arith
 
 pub basics_long : (ss : List Shape) → length (basics ++ ss) ≡ 14 + length ss
 unfolding basics is_basic
 basics_long ss = omega arith
 
 pub at_inj : (ss : List Shape) (n m : ℕ) → Distinct (basics ++ ss) → Part (length ss) n → Part (length ss) m → shape_at ss n ≡ shape_at ss m → n ≡ m
-at_inj ss n m d p q e = let l = basics_long ss in
-    let z : n - 1 ≡ m - 1 = distinct_at (basics ++ ss) (n - 1) (m - 1) byte d (omega arith) (omega arith) e in omega arith
+at_inj ss n m d p q e = grind (arith, basics_long ss, distinct_at (basics ++ ss) (n - 1) (m - 1) byte d)
 
 pub ats_inj : (ss : List Shape) (ns ms : List ℕ) → Distinct (basics ++ ss) → Parts (length ss) ns → Parts (length ss) ms → shapes_at ss ns ≡ shapes_at ss ms → ns ≡ ms
 ats_inj ss [] [] d p q e = refl
-ats_inj ss [] (m ∷ ms) d p q e = cc
-ats_inj ss (n ∷ ns) [] d p q e = cc
 ats_inj ss (n ∷ ns) (m ∷ ms) d p q e = ap₂ ◌∷◌ (at_inj ss n m d p.0 q.0 cc) (ats_inj ss ns ms d p.1 q.1 cc)
+ats_inj ss ns ms d p q e = cc
 
 pub node_inj : (ss : List Shape) (x y : Node) → Distinct (basics ++ ss) → Known (length ss) x → Known (length ss) y → node_shape ss x ≡ node_shape ss y → x ≡ y
 node_inj ss (array a) (array b) d p q e = ap array (at_inj ss a b d p q cc)
-node_inj ss (array a) (maybe b) d p q e = cc
-node_inj ss (array a) (dict b b') d p q e = cc
-node_inj ss (array a) (structure []) d p q e = absurd q
-node_inj ss (array a) (structure (b ∷ bs)) d p q e = cc
-node_inj ss (maybe a) (array b) d p q e = cc
 node_inj ss (maybe a) (maybe b) d p q e = ap maybe (at_inj ss a b d p q cc)
-node_inj ss (maybe a) (dict b b') d p q e = cc
-node_inj ss (maybe a) (structure []) d p q e = absurd q
-node_inj ss (maybe a) (structure (b ∷ bs)) d p q e = cc
-node_inj ss (dict a a') (array b) d p q e = cc
-node_inj ss (dict a a') (maybe b) d p q e = cc
 node_inj ss (dict a a') (dict b b') d p q e = ap₂ dict (at_inj ss a b d p.0 q.0 cc) (at_inj ss a' b' d p.1 q.1 cc)
-node_inj ss (dict a a') (structure []) d p q e = absurd q
-node_inj ss (dict a a') (structure (b ∷ bs)) d p q e = cc
-node_inj ss (structure []) y d p q e = absurd p
-node_inj ss (structure (a ∷ az)) (array b) d p q e = cc
-node_inj ss (structure (a ∷ az)) (maybe b) d p q e = cc
-node_inj ss (structure (a ∷ az)) (dict b b') d p q e = cc
-node_inj ss (structure (a ∷ az)) (structure []) d p q e = absurd q
 node_inj ss (structure (a ∷ az)) (structure (b ∷ bs)) d p q e = ap structure (ap₂ ◌∷◌ (at_inj ss a b d p.0 q.0 cc) (ats_inj ss az bs d p.1 q.1 cc))
+node_inj ss (structure []) y d p q e = absurd p
+node_inj ss x (structure []) d p q e = absurd q
+node_inj ss x y d p q e = cc
 
 pub keep_num : (ss : List Shape) → Distinct (basics ++ ss) → (n m : ℕ) (u v : Text) → Num ss n u → Num ss m v → eqb n m ≡ same_text u v
-keep_num ss d n m u v p q = bool_same (eqb n m) (same_text u v)
-    (λ h. let e : n ≡ m = numbers.so n m h in let g : u ≡ v = p.1 ∙ ap (λ (k : ℕ). printed (shape_at ss k)) e ∙ sym q.1 in rw g (same_texts.self v))
-    (λ h. let e : u ≡ v = same_texts.so u v h in eq-eqb n m (at_inj ss n m d p.0 q.0 (printed_inj (shape_at ss n) (shape_at ss m) (sym p.1 ∙ e ∙ q.1))))
+keep_num ss d n m u v p q =
+    bool_same (eqb n m) (same_text u v) (λ h. grind (arith, numbers.so n m, same_texts.self v)) (λ h. eq-eqb n m (at_inj ss n m d p.0 q.0 (printed_inj (shape_at ss n) (shape_at ss m) (cc (same_texts.so u v h)))))
 
 pub code_inj : (x y : Node) → code x ≡ code y → x ≡ y
-code_inj (array a) (array b) e = cc
-code_inj (array a) (maybe b) e = let z : ◌≡◌ {A = ℕ} 1 4 = cc in absurd (omega arith)
-code_inj (array a) (dict b b') e = let z : ◌≡◌ {A = ℕ} 1 2 = cc in absurd (omega arith)
-code_inj (array a) (structure b) e = let z : ◌≡◌ {A = ℕ} 1 3 = cc in absurd (omega arith)
-code_inj (maybe a) (array b) e = let z : ◌≡◌ {A = ℕ} 4 1 = cc in absurd (omega arith)
-code_inj (maybe a) (maybe b) e = cc
-code_inj (maybe a) (dict b b') e = let z : ◌≡◌ {A = ℕ} 4 2 = cc in absurd (omega arith)
-code_inj (maybe a) (structure b) e = let z : ◌≡◌ {A = ℕ} 4 3 = cc in absurd (omega arith)
-code_inj (dict a a') (array b) e = let z : ◌≡◌ {A = ℕ} 2 1 = cc in absurd (omega arith)
-code_inj (dict a a') (maybe b) e = let z : ◌≡◌ {A = ℕ} 2 4 = cc in absurd (omega arith)
-code_inj (dict a a') (dict b b') e = cc
-code_inj (dict a a') (structure b) e = let z : ◌≡◌ {A = ℕ} 2 3 = cc in absurd (omega arith)
-code_inj (structure a) (array b) e = let z : ◌≡◌ {A = ℕ} 3 1 = cc in absurd (omega arith)
-code_inj (structure a) (maybe b) e = let z : ◌≡◌ {A = ℕ} 3 4 = cc in absurd (omega arith)
-code_inj (structure a) (dict b b') e = let z : ◌≡◌ {A = ℕ} 3 2 = cc in absurd (omega arith)
-code_inj (structure a) (structure b) e = cc
+code_inj x y e = grind arith
 
 pub same_nodes : Decides same_node
 same_nodes = record { so = λ x y h. code_inj x y (same_texts.so (code x) (code y) h); self = λ x. same_texts.self (code x) }
 
 pub keep_node : (ss : List Shape) → Distinct (basics ++ ss) → (x y : Node) (u v : Text) → Row ss x u → Row ss y v → same_node x y ≡ same_text u v
 keep_node ss d x y u v p q = bool_same (same_node x y) (same_text u v)
-    (λ h. let e : x ≡ y = same_nodes.so x y h in let g : u ≡ v = p.1 ∙ ap (λ (k : Node). printed (node_shape ss k)) e ∙ sym q.1 in rw g (same_texts.self v))
-    (λ h. let e : u ≡ v = same_texts.so u v h in
-    let f : x ≡ y = node_inj ss x y d p.0 q.0 (printed_inj (node_shape ss x) (node_shape ss y) (sym p.1 ∙ e ∙ q.1)) in rw f (same_nodes.self y))
+    (λ h. grind (arith, same_nodes.so x y, same_texts.self v))
+    (λ h. let e = node_inj ss x y d p.0 q.0 (printed_inj (node_shape ss x) (node_shape ss y) (cc (same_texts.so u v h))) in cc (e, same_nodes.self y))
 
 -- more containers change none of the numbers before
-part_more : (m k n : ℕ) → m ≤ k → Part m n → Part k n
-part_more m k n l p = omega arith
-
 parts_more : (m k : ℕ) (ns : List ℕ) → m ≤ k → Parts m ns → Parts k ns
 parts_more m k [] l p = tt
-parts_more m k (n ∷ ns) l p = (part_more m k n l p.0, parts_more m k ns l p.1)
+parts_more m k (n ∷ ns) l p = (omega arith, parts_more m k ns l p.1)
 
 pub known_more : (m k : ℕ) (x : Node) → m ≤ k → Known m x → Known k x
-known_more m k (array n) l p = part_more m k n l p
-known_more m k (maybe n) l p = part_more m k n l p
-known_more m k (dict a b) l p = (part_more m k a l p.0, part_more m k b l p.1)
+known_more m k (array n) l p = omega arith
+known_more m k (maybe n) l p = omega arith
+known_more m k (dict a b) l p = omega arith
 known_more m k (structure []) l p = p
-known_more m k (structure (n ∷ ns)) l p = (part_more m k n l p.0, parts_more m k ns l p.1)
+known_more m k (structure (n ∷ ns)) l p = (omega arith, parts_more m k ns l p.1)
 
 pub at_more : (ss r : List Shape) (n : ℕ) → Part (length ss) n → shape_at (ss ++ r) n ≡ shape_at ss n
 at_more ss r n p = let l = basics_long ss in
@@ -130,4 +92,4 @@ unfolding basics is_basic
 basics_count = refl
 
 pub at_shape : (ss : List Shape) (n : ℕ) → 15 ≤ n → shape_at ss n ≡ get_or ss (n - 15) byte
-at_shape ss n l = get_or-append_right basics ss 14 (n - 1) byte basics_count (omega arith) ∙ ap (λ (k : ℕ). get_or ss k byte) (omega arith)
+at_shape ss n l = let c = basics_count in grind (arith, get_or-append_right basics ss 14 (n - 1) byte)

@@ -4,13 +4,6 @@ use Rattle.grammar.specs.Lists.{In, Distinct}
 use Rattle.book.specs.Nodes.{Node, Known, Chain}
 use Rattle.book.proofs.NodeShapes.{known_more}
 
-pub chain_by_place : (ns : List Node) (m : ℕ) (d : Node) → ((k : ℕ) → k < length ns → Known (m + k) (get_or ns k d)) → Chain m ns
-chain_by_place [] m d h = tt
-chain_by_place (x ∷ ns) m d h = (
-  known_more (m + 0) m x (omega arith) (h 0 (omega arith)),
-  chain_by_place ns (m + 1) d (λ k l. known_more (m + suc k) (m + 1 + k) (get_or ns k d) (omega arith) (h (suc k) (omega arith))),
-)
-
 pub chain_at : (ns : List Node) (m : ℕ) (d : Node) → Chain m ns → (k : ℕ) → k < length ns → Known (m + k) (get_or ns k d)
 chain_at [] m d c k l = absurd (omega arith)
 chain_at (x ∷ ns) m d c zero l = known_more m (m + 0) x (omega arith) c.0
@@ -18,8 +11,7 @@ chain_at (x ∷ ns) m d c (suc k) l = known_more (m + 1 + k) (m + suc k) (get_or
 
 in_place : {A : Type 0} (xs : List A) (x d : A) → In x xs → (k : ℕ) × (k < length xs) × (get_or xs k d ≡ x)
 in_place [] x d i = absurd i
-in_place (y ∷ ys) x d (inl e) = (0, omega arith, e)
-in_place (y ∷ ys) x d (inr i) = let p = in_place ys x d i in (suc p.0, omega (arith, p.1), p.2)
+in_place (y ∷ ys) x d i = elim i [ inl e ↦ (0, omega arith, e) | inr j ↦ let p = in_place ys x d j in (suc p.0, omega (arith, p.1), p.2) ]
 
 pub distinct_by_place : {A : Type 0} (xs : List A) (d : A) → ((j k : ℕ) → j < k → k < length xs → get_or xs j d ≡ get_or xs k d → ⊥) → Distinct xs
 distinct_by_place [] d h = tt

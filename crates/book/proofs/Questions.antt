@@ -1,27 +1,29 @@
 -- The questions, answered from the texts and from the nodes, have the same answers.
-use Rattle.std.proofs.Common.{◌≡◌, ℕ, zero, suc, ◌+◌, ◌-◌, ◌<◌, ◌≤◌, Bool, true, false, cond, eqb, ltb, List, [], ◌∷◌, map, length, get_or, Some, codes, sym, refl, ap, ◌∙◌, arith}
+use Rattle.std.proofs.Common.{inl, inr, ◌≡◌, ℕ, zero, suc, ◌+◌, ◌-◌, ◌<◌, ◌≤◌, true, cond, eqb, ltb, List, [], ◌∷◌, map, length, get_or, Some, sym, refl, ap, ◌∙◌, arith}
 use mathlib.Core.Option.{Option, none, some}
 use native.Mathlib.Decide.{dec_lt}
 use lib.ListN.{length-map}
-use Rattle.std.proofs.lemmas.List.{get_or_append_left, get_or-map, get_or_default}
-use Rattle.std.proofs.lemmas.Bool.{lt-ltb, le-ltb, ne_eqb}
+use Rattle.std.proofs.lemmas.List.{get_or_append_left, get_or-map}
+use Rattle.std.proofs.lemmas.Bool.Decides.{nat_tests}
+use Rattle.std.proofs.lemmas.Bool.{eq-eqb, eqb-true, lt-ltb, le-ltb, cases_lt}
 use Rattle.grammar.specs.declared.figures.Figures.{Figures}
-use Rattle.grammar.specs.Lists.{has}
 use Rattle.grammar.specs.Shape.{Text, is_basic, Shape, basic, printed}
 use Rattle.grammar.specs.Parts.{fields}
 use Rattle.grammar.specs.Figures.{gvariant_of_code, gvariant_alignment, text_figures}
 use Rattle.grammar.specs.Read.{reading}
 use Rattle.grammar.specs.Refusals.{Outcome, accepted, refused}
 use Rattle.grammar.proofs.ReadBack.{reading_printed, reading_empty}
-use Rattle.book.specs.Plain.{same_text, text_of, number_of}
+use Rattle.book.specs.Plain.{known, same_text, text_of, number_of}
 use Rattle.book.specs.Nodes.{Node, array, maybe, dict, structure, figures_from, figures_at, basics, byte, shapes_from, shape_at, node_shape, Part, Known, texts_of}
 use Rattle.book.specs.Agree.{Good}
 use Rattle.book.specs.Questions.{if_known, child_by, key_by, value_by, fields_by, number_at, child_of, key_of, value_of, len_of, get_of, figure_of, Format, alignment_in, alignment, alignment_of, equal_of, node_answer, node_child, node_dict_key, node_dict_value, node_fields, item_at, node_len, node_get, figure_answer, alignment_answer, equal_answer}
-use Rattle.book.proofs.Lists.{All, All2, all_in, in_get_d, long2, get_or2}
-use Rattle.book.proofs.NodeShapes.{Num, Row, keep_num, basics_count, at_shape}
+use Rattle.std.proofs.lemmas.Slice.Zip.{AllZip-long}
+use Rattle.std.specs.List.{AllZip}
+use Rattle.book.proofs.Lists.{distinct_at, all_in, in_get_d, get_or2}
+use Rattle.book.proofs.NodeShapes.{bool_same, same_texts, Num, Row, basics_count, at_shape}
 use Rattle.book.proofs.Figured.{shape_figures}
-use Rattle.book.proofs.Sound.{Sound, as_many}
-use Rattle.book.proofs.Interned.{text_is, not_empty, empty_not}
+use Rattle.book.proofs.Sound.{Sound, as_many, Code, basics_codes}
+use Rattle.book.proofs.Interned.{text_is, known_apart}
 use Rattle.book.proofs.Tails.{node_fields_are}
 use Rattle.book.proofs.TextFigures.{text_figures_are}
 use Rattle.book.proofs.Rows.{number_at_is}
@@ -32,23 +34,7 @@ texts_count ns g = length-map (shapes_from [] ns) printed ∙ sym (as_many ns (s
 
 -- what is asked of a known number
 if_known_is : {A : Type 0} (ns : List Node) → Good ns → (n : ℕ) (x y : Outcome A) → (n < 15 + length ns → x ≡ y) → if_known (length (texts_of ns)) n x ≡ if_known (length ns) n y
-if_known_is ns g n x y h = rw (texts_count ns g) (go (dec_lt n (15 + length ns)))
-  where
-    go : Dec (n < 15 + length ns) → if_known (length ns) n x ≡ if_known (length ns) n y
-    go (yes l) = rw (lt-ltb n (15 + length ns) l) (h l)
-    go (no l) = rw (le-ltb n (15 + length ns) (omega arith))
-
--- the shapes of the basic codes
-abbrev Code : Shape → Type 0
-Code (basic c h) = Unit {0}
-Code (Shape.array t) = ⊥
-Code (Shape.maybe t) = ⊥
-Code (Shape.dict k v) = ⊥
-Code (Shape.structure t ts) = ⊥
-
-basics_codes : All Code basics
-unfolding basics is_basic
-basics_codes = (tt, (tt, (tt, (tt, (tt, (tt, (tt, (tt, (tt, (tt, (tt, (tt, (tt, (tt, tt))))))))))))))
+if_known_is ns g n x y h = rw (texts_count ns g) (grind (arith, nat_tests, h))
 
 code_at : (ss : List Shape) (n : ℕ) → 0 < n → n < 15 → Code (shape_at ss n)
 code_at ss n p l = let c = basics_count in
@@ -69,10 +55,7 @@ module _ (ns : List Node) (g : Good ns) where
       (node : (x : Node) → Known (length (shapes_from [] ns)) x → q (some (node_shape (shapes_from [] ns) x)) ≡ p x) where
     of_code : (t : Shape) → Code t → q (some t) ≡ refused 6 []
     of_code (basic c h) k = code c h
-    of_code (Shape.array t) k = absurd k
-    of_code (Shape.maybe t) k = absurd k
-    of_code (Shape.dict t u) k = absurd k
-    of_code (Shape.structure t ts) k = absurd k
+    of_code t k = absurd k
 
     asked : (n : ℕ) → if_known (length (texts_of ns)) n (q (reading (text_of (texts_of ns) n))) ≡ node_answer p ns n
     asked n = if_known_is ns g n (q (reading (text_of (texts_of ns) n))) (cond (ltb n 15) (refused 6 []) (p (get_or ns (n - 15) (array 0)))) (go n (dec_lt n 15))
@@ -95,55 +78,44 @@ module _ (ns : List Node) (g : Good ns) where
       node : (x : Node) → Known (length (shapes_from [] ns)) x → child_by (texts_of ns) (some (node_shape (shapes_from [] ns) x)) ≡ node_child x
       node (array n) k = ap accepted (number n k)
       node (maybe n) k = ap accepted (number n k)
-      node (dict a b) k = refl
       node (structure []) k = absurd k
-      node (structure (n ∷ fs)) k = refl
+      node x k = refl
 
   pub key_agrees : (n : ℕ) → key_of (texts_of ns) n ≡ node_answer node_dict_key ns n
   unfolding key_of
   key_agrees = asked (key_by (texts_of ns)) node_dict_key refl (λ c h. refl) node
     where
       node : (x : Node) → Known (length (shapes_from [] ns)) x → key_by (texts_of ns) (some (node_shape (shapes_from [] ns) x)) ≡ node_dict_key x
-      node (array n) k = refl
-      node (maybe n) k = refl
       node (dict a b) k = ap accepted (number a k.0)
       node (structure []) k = absurd k
-      node (structure (n ∷ fs)) k = refl
+      node x k = refl
 
   pub value_agrees : (n : ℕ) → value_of (texts_of ns) n ≡ node_answer node_dict_value ns n
   unfolding value_of
   value_agrees = asked (value_by (texts_of ns)) node_dict_value refl (λ c h. refl) node
     where
       node : (x : Node) → Known (length (shapes_from [] ns)) x → value_by (texts_of ns) (some (node_shape (shapes_from [] ns) x)) ≡ node_dict_value x
-      node (array n) k = refl
-      node (maybe n) k = refl
       node (dict a b) k = ap accepted (number b k.1)
       node (structure []) k = absurd k
-      node (structure (n ∷ fs)) k = refl
+      node x k = refl
 
   -- a question about the fields
-  of_fields : {A : Type 0} (f : List Text → Outcome A) (h : List ℕ → Outcome A) → ((t : List ℕ) (u : List Text) → All2 (Num (shapes_from [] ns)) t u → f u ≡ h t)
+  of_fields : {A : Type 0} (f : List Text → Outcome A) (h : List ℕ → Outcome A) → ((t : List ℕ) (u : List Text) → AllZip (Num (shapes_from [] ns)) t u → f u ≡ h t)
       → (x : Node) → Known (length (shapes_from [] ns)) x → fields_by f (some (node_shape (shapes_from [] ns) x)) ≡ node_fields h x
-  of_fields f h e (array n) k = refl
-  of_fields f h e (maybe n) k = refl
-  of_fields f h e (dict a b) k = refl
   of_fields f h e (structure []) k = absurd k
   of_fields f h e (structure (n ∷ fs)) k = e (n ∷ fs) (map printed (fields (node_shape (shapes_from [] ns) (structure (n ∷ fs))))) (node_fields_are (shapes_from [] ns) (structure (n ∷ fs)) k)
+  of_fields f h e x k = refl
 
   pub len_agrees : (n : ℕ) → len_of (texts_of ns) n ≡ node_answer node_len ns n
   unfolding len_of
-  len_agrees = asked (fields_by (λ fs. accepted (length fs))) node_len refl (λ c h. refl) (of_fields (λ fs. accepted (length fs)) (λ fs. accepted (length fs)) (λ t u a. ap accepted (sym (long2 (Num (shapes_from [] ns)) t u a))))
+  len_agrees = asked (fields_by (λ fs. accepted (length fs))) node_len refl (λ c h. refl) (of_fields (λ fs. accepted (length fs)) (λ fs. accepted (length fs)) (λ t u a. ap accepted (AllZip-long (Num (shapes_from [] ns)) t u a)))
 
-  item : (i : ℕ) (t : List ℕ) (u : List Text) → All2 (Num (shapes_from [] ns)) t u → number_at (texts_of ns) u i ≡ item_at t i
-  item i t u a = go (dec_lt i (length t))
-    where
-      l : length t ≡ length u
-      l = long2 (Num (shapes_from [] ns)) t u a
-
-      go : Dec (i < length t) → number_at (texts_of ns) u i ≡ item_at t i
-      go (yes h) = let r = get_or2 (Num (shapes_from [] ns)) t u i 0 [] h a in
-          rw (lt-ltb i (length t) h, lt-ltb i (length u) (omega (arith, l))) (ap Some (ap (number_of (texts_of ns)) r.1 ∙ number (get_or t i 0) r.0))
-      go (no h) = rw (le-ltb i (length t) (omega arith), le-ltb i (length u) (omega (arith, l)))
+  item : (i : ℕ) (t : List ℕ) (u : List Text) → AllZip (Num (shapes_from [] ns)) t u → number_at (texts_of ns) u i ≡ item_at t i
+  item i t u a = let l = AllZip-long (Num (shapes_from [] ns)) t u a in elim (cases_lt i (length t)) [
+    | inl h ↦ let r = get_or2 (Num (shapes_from [] ns)) t u i 0 [] h a in
+        rw (lt-ltb i (length t) h, lt-ltb i (length u) (omega arith)) (ap Some (ap (number_of (texts_of ns)) r.1 ∙ number (get_or t i 0) r.0))
+    | inr h ↦ rw (le-ltb i (length t) h, le-ltb i (length u) (omega arith))
+  ]
 
   pub get_agrees : (n i : ℕ) → get_of (texts_of ns) n i ≡ node_answer (node_get i) ns n
   unfolding get_of
@@ -160,44 +132,24 @@ module _ (ns : List Node) (g : Good ns) where
       (λ l. ap (λ (x : Figures). alignment (alignment_in format x)) (text_figures_are ns g n l))
 
   same_number : (m n : ℕ) → m < 15 + length ns → n < 15 + length ns → same_text (text_of (texts_of ns) m) (text_of (texts_of ns) n) ≡ eqb m n
-  same_number zero zero p q = refl
-  same_number zero (suc n) p q = let e = as_many ns (shapes_from [] ns) (good_sound ns g) in
-      rw (ne_eqb 0 (suc n) (omega arith)) (ap (same_text []) (text_is (shapes_from [] ns) (suc n) (omega arith)) ∙ not_empty (shape_at (shapes_from [] ns) (suc n)))
-  same_number (suc m) zero p q = let e = as_many ns (shapes_from [] ns) (good_sound ns g) in
-      rw (ne_eqb (suc m) 0 (omega arith)) (ap (λ (w : Text). same_text w []) (text_is (shapes_from [] ns) (suc m) (omega arith)) ∙ empty_not (shape_at (shapes_from [] ns) (suc m)))
-  same_number (suc m) (suc n) p q = let e = as_many ns (shapes_from [] ns) (good_sound ns g) in
-      sym (keep_num (shapes_from [] ns) (good_sound ns g).apart (suc m) (suc n) (text_of (texts_of ns) (suc m)) (text_of (texts_of ns) (suc n))
-      (omega arith, text_is (shapes_from [] ns) (suc m) (omega arith)) (omega arith, text_is (shapes_from [] ns) (suc n) (omega arith)))
+  same_number m n p q =
+      let l = texts_count ns g in
+      bool_same (same_text (text_of (texts_of ns) m) (text_of (texts_of ns) n)) (eqb m n)
+      (λ h. eq-eqb m n (distinct_at (known (texts_of ns)) m n [] (known_apart (shapes_from [] ns) (good_sound ns g).apart) (omega arith) (omega arith) (same_texts.so _ _ h)))
+      (λ h. rw (eqb-true m n h) (same_texts.self (text_of (texts_of ns) n)))
 
   pub equal_agrees : (m n : ℕ) → equal_of (texts_of ns) m n ≡ equal_answer ns m n
   unfolding equal_of
-  equal_agrees m n = if_known_is ns g m _ _ (λ l. rw (texts_count ns g) (go l (dec_lt n (15 + length ns))))
-    where
-      go : m < 15 + length ns → Dec (n < 15 + length ns)
-          → cond (ltb n (15 + length ns)) (accepted (same_text (text_of (texts_of ns) m) (text_of (texts_of ns) n))) (refused 3 (1 ∷ [])) ≡ cond (ltb n (15 + length ns)) (accepted (eqb m n)) (refused 3 (1 ∷ []))
-      go l (yes h) = rw (lt-ltb n (15 + length ns) h) (ap accepted (same_number m n l h))
-      go l (no h) = rw (le-ltb n (15 + length ns) (omega arith))
+  equal_agrees m n = if_known_is ns g m _ _ (λ l. rw (texts_count ns g) (grind (arith, nat_tests, same_number m n l)))
 
--- The answers over numbers, case by case.
+-- What is asked of a number that is not known.
 module _ {A : Type 0} (q : Node → Outcome A) (ns : List Node) where
-  pub answer_row : (n : ℕ) (d : Node) → 15 ≤ n → n < 15 + length ns → node_answer q ns n ≡ q (get_or ns (n - 15) d)
-  answer_row n d l h = rw (lt-ltb n (15 + length ns) h, le-ltb n 15 l) (ap q (get_or_default ns (n - 15) (array 0) d (omega arith)))
-
-  pub answer_code : (n : ℕ) → n < 15 → node_answer q ns n ≡ refused 6 []
-  answer_code n l = rw (lt-ltb n (15 + length ns) (omega arith), lt-ltb n 15 l)
-
   pub answer_unknown : (n : ℕ) → 15 + length ns ≤ n → node_answer q ns n ≡ refused 3 (0 ∷ [])
   answer_unknown n l = rw (le-ltb n (15 + length ns) l)
 
 -- Each signature has an alignment in GVariant.
 code_aligned : (c : ℕ) → 0 < gvariant_of_code c
-code_aligned c = by (has eqb (codes "ybsog") c) (has eqb (codes "nq") c) (has eqb (codes "xtdv") c)
-  where
-    by : (p q r : Bool) → 0 < cond p 1 (cond q 2 (cond r 8 4))
-    by true q r = omega arith
-    by false true r = omega arith
-    by false false true = omega arith
-    by false false false = omega arith
+code_aligned c = grind arith
 
 shape_aligned : (t : Shape) → 0 < gvariant_alignment t
 shape_aligned (basic c h) = code_aligned c

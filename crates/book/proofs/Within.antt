@@ -1,54 +1,39 @@
 -- The containers listed of a type are those that stand in it.
-use Rattle.std.proofs.Common.{◌⊎◌, List, [], ◌∷◌, ◌++◌, refl, subst, inl, inr, append_assoc}
+use Rattle.std.proofs.Common.{List, [], ◌∷◌, ◌++◌, refl, subst, inl, inr, append_assoc}
 use Rattle.grammar.specs.Lists.{In}
 use Rattle.grammar.specs.Shape.{Shape, Shapes, basic, array, maybe, dict, structure, nil, more}
 use Rattle.grammar.specs.Parts.{containers, containers_all, Container, Within, itself, element, content, key, value, field, WithinAny, first, later}
 use Rattle.book.proofs.Lists.{in_left, in_right, in_split}
 
+-- the type itself stands at the end
+ended : (s : Shape) → Container s → (xs : List Shape) (c : Shape) → (In c xs → Within c s × Container c) → In c (xs ++ s ∷ []) → Within c s × Container c
+ended s k xs c f i = elim (in_split c xs (s ∷ []) i) [
+  | inl j ↦ f j
+  | inr (inl e) ↦ subst (λ (z : Shape). Within z s × Container z) e (itself, k)
+  | inr (inr j) ↦ absurd j
+]
+
 -- a container is one of the containers of a type just where it stands in the type
 mutual
   pub within : (s c : Shape) → In c (containers s) → Within c s × Container c
   within (basic b h) c i = absurd i
-  within (array t) c i = go (within t c) (in_split c (containers t) (array t ∷ []) i)
-    where
-      go : (In c (containers t) → Within c t × Container c) → In c (containers t) ⊎ In c (array t ∷ []) → Within c (array t) × Container c
-      go ih (inl j) = (element (ih j).0, (ih j).1)
-      go ih (inr (inl e)) = subst (λ (z : Shape). Within z (array t) × Container z) e (itself, tt)
-      go ih (inr (inr j)) = absurd j
-  within (maybe t) c i = go (within t c) (in_split c (containers t) (maybe t ∷ []) i)
-    where
-      go : (In c (containers t) → Within c t × Container c) → In c (containers t) ⊎ In c (maybe t ∷ []) → Within c (maybe t) × Container c
-      go ih (inl j) = (content (ih j).0, (ih j).1)
-      go ih (inr (inl e)) = subst (λ (z : Shape). Within z (maybe t) × Container z) e (itself, tt)
-      go ih (inr (inr j)) = absurd j
-  within (dict k v) c i = go (within k c) (within v c) (in_split c (containers k) (containers v ++ dict k v ∷ []) i)
-    where
-      last : (In c (containers v) → Within c v × Container c) → In c (containers v) ⊎ In c (dict k v ∷ []) → Within c (dict k v) × Container c
-      last ih (inl j) = (value (ih j).0, (ih j).1)
-      last ih (inr (inl e)) = subst (λ (z : Shape). Within z (dict k v) × Container z) e (itself, tt)
-      last ih (inr (inr j)) = absurd j
+  within (array t) c i = ended (array t) tt (containers t) c (λ j. let p = within t c j in (element p.0, p.1)) i
+  within (maybe t) c i = ended (maybe t) tt (containers t) c (λ j. let p = within t c j in (content p.0, p.1)) i
+  within (dict k v) c i = elim (in_split c (containers k) (containers v ++ dict k v ∷ []) i) [
+    | inl j ↦ let p = within k c j in (key p.0, p.1)
+    | inr j ↦ ended (dict k v) tt (containers v) c (λ j. let p = within v c j in (value p.0, p.1)) j
+  ]
+  within (structure t ts) c i = elim (in_split c (containers t) (containers_all ts ++ structure t ts ∷ []) i) [
+    | inl j ↦ let p = within t c j in (field (first p.0), p.1)
+    | inr j ↦ ended (structure t ts) tt (containers_all ts) c (λ j. let p = withins ts c j in (field (later p.0), p.1)) j
+  ]
 
-      go : (In c (containers k) → Within c k × Container c) → (In c (containers v) → Within c v × Container c) → In c (containers k) ⊎ In c (containers v ++ dict k v ∷ []) → Within c (dict k v) × Container c
-      go ih jh (inl j) = (key (ih j).0, (ih j).1)
-      go ih jh (inr j) = last jh (in_split c (containers v) (dict k v ∷ []) j)
-  within (structure t ts) c i = go (within t c) (withins ts c) (in_split c (containers t) (containers_all ts ++ structure t ts ∷ []) i)
-    where
-      last : (In c (containers_all ts) → WithinAny c ts × Container c) → In c (containers_all ts) ⊎ In c (structure t ts ∷ []) → Within c (structure t ts) × Container c
-      last ih (inl j) = (field (later (ih j).0), (ih j).1)
-      last ih (inr (inl e)) = subst (λ (z : Shape). Within z (structure t ts) × Container z) e (itself, tt)
-      last ih (inr (inr j)) = absurd j
-
-      go : (In c (containers t) → Within c t × Container c) → (In c (containers_all ts) → WithinAny c ts × Container c) → In c (containers t) ⊎ In c (containers_all ts ++ structure t ts ∷ []) → Within c (structure t ts) × Container c
-      go ih jh (inl j) = (field (first (ih j).0), (ih j).1)
-      go ih jh (inr j) = last jh (in_split c (containers_all ts) (structure t ts ∷ []) j)
-
-  pub withins : (ts : Shapes) (c : Shape) → In c (containers_all ts) → WithinAny c ts × Container c
+  withins : (ts : Shapes) (c : Shape) → In c (containers_all ts) → WithinAny c ts × Container c
   withins nil c i = absurd i
-  withins (more t ts) c i = go (within t c) (withins ts c) (in_split c (containers t) (containers_all ts) i)
-    where
-      go : (In c (containers t) → Within c t × Container c) → (In c (containers_all ts) → WithinAny c ts × Container c) → In c (containers t) ⊎ In c (containers_all ts) → WithinAny c (more t ts) × Container c
-      go ih jh (inl j) = (first (ih j).0, (ih j).1)
-      go ih jh (inr j) = (later (jh j).0, (jh j).1)
+  withins (more t ts) c i = elim (in_split c (containers t) (containers_all ts) i) [
+    | inl j ↦ let p = within t c j in (first p.0, p.1)
+    | inr j ↦ let p = withins ts c j in (later p.0, p.1)
+  ]
 
 own : (c : Shape) → Container c → In c (containers c)
 own (basic b h) k = absurd k

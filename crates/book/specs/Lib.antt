@@ -5,4 +5,3 @@ pub mod Agree
 pub mod Rows
 pub mod Questions
 pub mod History
-pub mod FromBytes

@@ -38,8 +38,8 @@ pub fn is_known(sheet: &mut Sheet, n: u16) -> bool
     sheet.string_len(n).is_ok()
 }
 
-// How many bytes the printed form of `n` has, none where it is no number of the sheet. The row is read here: with
-// string_len in it, `byte` takes more than 100 bytes of stack for each part that it goes down.
+// How many bytes the printed form of `n` has, none where it is no number of the sheet. The row is read here, since over
+// `string_len` the function `byte` would take seven times as much stack for a level of nesting.
 pub fn length_of(sheet: &mut Sheet, n: u16) -> Option<u16>
     ensures same { sheet.new ≡ sheet.old }
     ensures long { result ≡ length_in (book_in sheet.old) n }
@@ -95,7 +95,8 @@ fn pair_step(sheet: &mut Sheet, key: u16, value: u16, p: usize) -> Step
     Step::Done((behind_value == 0).then_some(b'}'))
 }
 
-// A byte of a structure's fields, from the field row `first` on, and closing parenthesis.
+// A byte of a structure's fields, from the field row `first` on, and closing parenthesis. An iterator over the fields
+// would hold the sheet, which is asked here for the length of each.
 fn fields_step(sheet: &mut Sheet, first: u16, p: usize) -> Step
     ensures same { sheet.new ≡ sheet.old }
     ensures leads { Leads (book_in sheet.old) (texts (book_in sheet.old) (fields_from sheet.old first) ++ 41 ∷ []) (fields_from sheet.old first) p result }
@@ -128,7 +129,8 @@ fn row_step(sheet: &mut Sheet, row: TypeRow, p: usize) -> Step
     }
 }
 
-// The byte at place `p` of the printed form of `n`, none past its end. The inner call is the last step.
+// The byte at place `p` of the printed form of `n`, none past its end. The inner call is the last step, so
+// that a level of nesting takes little stack.
 pub fn byte(sheet: &mut Sheet, n: u16, p: usize) -> Option<u8>
     ensures same { sheet.new ≡ sheet.old }
     ensures byte { result ≡ slice_get (text_of (book_in sheet.old) n) p }

@@ -1,10 +1,10 @@
 -- No shape's text is the start of another's.
-use Rattle.std.proofs.Common.{◌≡◌, ℕ, max, [], ◌∷◌, ◌++◌, sym, refl, ap, ◌∙◌, append_assoc, append-nil, arith}
+use Rattle.std.proofs.Common.{◌≡◌, ℕ, max, [], ◌∷◌, ◌++◌, refl, ap, append_assoc, append-nil, arith}
 use Rattle.grammar.specs.declared.error.Cause.TheVariants.{Unexpected}
-use Rattle.grammar.specs.Shape.{Text, Shape, printed, printed_all}
+use Rattle.grammar.specs.Shape.{Text, Shape, printed}
 use Rattle.grammar.specs.Laws.{PrefixFree, BareStructure}
 use Rattle.grammar.specs.Depth.{structure_depth, array_depth}
-use Rattle.grammar.specs.Scan.{one, Verdict, good, bad, run, final}
+use Rattle.grammar.specs.Scan.{Verdict, good, bad, run, final}
 use Rattle.grammar.proofs.ScanSteps.{run_stop, step_none}
 use Rattle.grammar.proofs.ScanComplete.{complete}
 
@@ -23,11 +23,11 @@ prefix_free t u v w e =
     let a : ℕ = max (array_depth t) (array_depth u) in
     let p = complete t s a [] v (omega arith) (omega arith) in
     let q = complete u s a [] w (omega arith) (omega arith) in
-    sym (left_none v) ∙ ap left (sym p ∙ ap (λ (x : Text). run (one s a ∷ []) x) e ∙ q) ∙ left_none w
+    cc (left_none v, left_none w)
 
 pub no_proper_start : PrefixFree
-no_proper_start t u rest e = prefix_free t u rest [] (sym e ∙ sym (append-nil (printed u)))
+no_proper_start t u rest e = prefix_free t u rest [] (cc (append-nil (printed u)))
 
 -- the text of types in a row is their structure's without its outer pair
 pub bare : BareStructure
-bare t ts = ap (λ (w : Text). 40 ∷ w) (sym (append_assoc (printed t) (printed_all ts) (41 ∷ [])))
+bare t ts = rw append_assoc

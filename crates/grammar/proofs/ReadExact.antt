@@ -1,8 +1,7 @@
 -- What is read is what was printed.
-use Rattle.std.proofs.Common.{◌≡◌, ℕ, zero, suc, ◌+◌, Bool, true, false, cond, eqb, [], ◌∷◌, ◌++◌, length, sym, refl, ap, ◌∙◌, ap₂, true≢false, append_assoc, append-nil}
+use Rattle.std.proofs.Common.{◌≡◌, ℕ, zero, suc, ◌+◌, true, [], ◌∷◌, ◌++◌, length, refl, ap, ◌∙◌, subst, append_assoc, append-nil, arith}
 use mathlib.Core.Bool.{Bool-discrete}
 use mathlib.Core.Option.{Option, none, some}
-use Rattle.std.proofs.lemmas.Bool.{eqb-true}
 use Rattle.grammar.specs.Shape.{Text, is_basic, Shape, basic, array, maybe, dict, structure, Shapes, nil, more, printed, printed_all}
 use Rattle.grammar.specs.Laws.{ReadingIsExact}
 use Rattle.grammar.proofs.ReadBack.{reading_printed, read_all_printed}
@@ -17,51 +16,33 @@ Says w (maybes v) = w ≡ 109 ∷ v
 Says w nothing = Unit {0}
 
 says_a : (b : ℕ) (w : Text) → b ≡ 97 → Says (b ∷ w) (behind_a w)
-says_a b [] e = ap (λ (z : ℕ). z ∷ []) e
-says_a b (c ∷ w) e = go (eqb c 123) refl
-  where
-    go : (t : Bool) → eqb c 123 ≡ t → Says (b ∷ c ∷ w) (cond t (dicts w) (arrays (c ∷ w)))
-    go true h = ap₂ (λ (y z : ℕ). y ∷ z ∷ w) e (eqb-true c 123 h)
-    go false h = ap (λ (z : ℕ). z ∷ c ∷ w) e
+says_a b w e = grind arith
 
 says : (w : Text) → Says w (front w)
 unfolding front
 says [] = tt
 says (b ∷ w) = go (Bool-discrete (is_basic b) true)
   where
-    by : (p q r : Bool) → eqb b 97 ≡ p → eqb b 40 ≡ q → eqb b 109 ≡ r → Says (b ∷ w) (cond p (behind_a w) (cond q (structures w) (cond r (maybes w) nothing)))
-    by true q r e f g = says_a b w (eqb-true b 97 e)
-    by false true r e f g = ap (λ (z : ℕ). z ∷ w) (eqb-true b 40 f)
-    by false false true e f g = ap (λ (z : ℕ). z ∷ w) (eqb-true b 109 g)
-    by false false false e f g = tt
-
     go : (d : Dec (is_basic b ≡ true)) → Says (b ∷ w) (front_by b w d)
     go (yes h) = refl
-    go (no n) = by (eqb b 97) (eqb b 40) (eqb b 109) refl refl refl
+    go (no n) = grind (arith, says_a b w)
 
 says_closing : (w v : Text) → closing w ≡ some v → w ≡ 41 ∷ v
-says_closing [] v e = absurd (true≢false cc)
-says_closing (b ∷ w) v e = go (eqb b 41) refl e
-  where
-    go : (t : Bool) → eqb b 41 ≡ t → cond t (some w) none ≡ some v → b ∷ w ≡ 41 ∷ v
-    go true h f = let z : w ≡ v = cc in ap₂ (λ (x : ℕ) (y : Text). x ∷ y) (eqb-true b 41 h) z
-    go false h f = let z : ◌≡◌ {A = Option Text} none (some v) = f in absurd (true≢false cc)
+says_closing [] v e = cc
+says_closing (b ∷ w) v e = grind arith
+
+-- what is said of the tree that was found, and of the text behind it
+of_found : {A : Type 0} (P : A → Text → Type 0) (x y : A) (u v : Text) → ◌≡◌ {A = Found A} (some (x, u)) (some (y, v)) → P x u → P y v
+of_found {A} P x y u v e h = let z : ◌≡◌ {A = A × Text} (x, u) (y, v) = cc in subst (λ (r : A × Text). P r.0 r.1) z h
 
 says_closed : {A : Type 0} (x y : A) (w v : Text) → closed 125 x w ≡ some (y, v) → (x ≡ y) × (w ≡ 125 ∷ v)
-says_closed x y [] v e = absurd (true≢false cc)
-says_closed {A} x y (b ∷ w) v e = go (eqb b 125) refl e
-  where
-    go : (t : Bool) → eqb b 125 ≡ t → cond {A = Found A} t (some (x, w)) none ≡ some (y, v) → (x ≡ y) × (b ∷ w ≡ 125 ∷ v)
-    go true h f = let z : ◌≡◌ {A = A × Text} (x, w) (y, v) = cc in (ap (λ (p : A × Text). p.0) z, ap₂ (λ (x : ℕ) (y : Text). x ∷ y) (eqb-true b 125 h) (ap (λ (p : A × Text). p.1) z))
-    go false h f = let z : ◌≡◌ {A = Option (A × Text)} none (some (y, v)) = f in absurd (true≢false cc)
+says_closed x y [] v e = cc
+says_closed x y (b ∷ w) v e = grind arith
 
 -- what was found first
 then_some : {A B : Type 0} (o : Found A) (f : A → Text → Found B) (y : B × Text) → then o f ≡ some y → (x : A) × (u : Text) × (o ≡ some (x, u)) × (f x u ≡ some y)
-then_some none f y e = absurd (true≢false cc)
+then_some none f y e = cc
 then_some (some r) f y e = (r.0, r.1, refl, e)
-
-same_pair : {A : Type 0} (x y : A) (u v : Text) → ◌≡◌ {A = Found A} (some (x, u)) (some (y, v)) → (x ≡ y) × (u ≡ v)
-same_pair {A} x y u v e = let z : ◌≡◌ {A = A × Text} (x, u) (y, v) = cc in (ap (λ (p : A × Text). p.0) z, ap (λ (p : A × Text). p.1) z)
 
 abbrev body : ℕ → Front → Found Shape
 body n (code c h v) = some (basic c h, v)
@@ -71,23 +52,9 @@ body n (dicts v) = then (read_type n v) (λ k u. then (read_type n u) (λ x y. c
 body n (structures v) = then (read_type n v) (λ t u. then (read_rest n u) (λ ts y. some (structure t ts, y)))
 body n nothing = none
 
-is_body : (n : ℕ) (w : Text) (f : Front) → front w ≡ f → read_type (suc n) w ≡ body n f
-unfolding read_type
-is_body n w (code c h v) e = rw (e, read_type)
-is_body n w (arrays v) e = rw (e, read_type)
-is_body n w (maybes v) e = rw (e, read_type)
-is_body n w (dicts v) e = rw (e, read_type)
-is_body n w (structures v) e = rw (e, read_type)
-is_body n w nothing e = rw (e, read_type)
-
 abbrev rest : ℕ → Text → Option Text → Found Shapes
 rest n w (some v) = some (nil, v)
 rest n w none = then (read_type n w) (λ t u. then (read_rest n u) (λ ts y. some (more t ts, y)))
-
-is_rest : (n : ℕ) (w : Text) (o : Option Text) → closing w ≡ o → read_rest (suc n) w ≡ rest n w o
-unfolding read_rest
-is_rest n w none e = rw (e, read_rest)
-is_rest n w (some v) e = rw (e, read_rest)
 
 abbrev Back : ℕ → Type 0
 Back n = (w : Text) (s : Shape) (v : Text) → read_type n w ≡ some (s, v) → w ≡ printed s ++ v
@@ -96,46 +63,40 @@ abbrev Backs : ℕ → Type 0
 Backs n = (w : Text) (ts : Shapes) (v : Text) → read_rest n w ≡ some (ts, v) → w ≡ printed_all ts ++ 41 ∷ v
 
 back_body : (n : ℕ) → Back n → Backs n → (w : Text) (f : Front) → Says w f → (s : Shape) (v : Text) → body n f ≡ some (s, v) → w ≡ printed s ++ v
-back_body n h k w (code c g u) y s v e = let p = same_pair (basic c g) s u v e in y ∙ ap₂ (λ (a : Shape) (b : Text). printed a ++ b) p.0 p.1
+back_body n h k w (code c g u) y s v e = of_found (λ (t : Shape) (x : Text). w ≡ printed t ++ x) (basic c g) s u v e y
 back_body n h k w (arrays u) y s v e =
     let q = then_some (read_type n u) (λ t u. some (array t, u)) (s, v) e in
-    let p = same_pair (array q.0) s q.1 v q.3 in
-    y ∙ ap (λ (z : Text). 97 ∷ z) (h u q.0 q.1 q.2) ∙ ap₂ (λ (a : Shape) (b : Text). printed a ++ b) p.0 p.1
+    of_found (λ (t : Shape) (x : Text). w ≡ printed t ++ x) (array q.0) s q.1 v q.3 (cc (h u q.0 q.1 q.2))
 back_body n h k w (maybes u) y s v e =
     let q = then_some (read_type n u) (λ t u. some (maybe t, u)) (s, v) e in
-    let p = same_pair (maybe q.0) s q.1 v q.3 in
-    y ∙ ap (λ (z : Text). 109 ∷ z) (h u q.0 q.1 q.2) ∙ ap₂ (λ (a : Shape) (b : Text). printed a ++ b) p.0 p.1
+    of_found (λ (t : Shape) (x : Text). w ≡ printed t ++ x) (maybe q.0) s q.1 v q.3 (cc (h u q.0 q.1 q.2))
 back_body n h k w (dicts u) y s v e =
     let q = then_some (read_type n u) (λ k u. then (read_type n u) (λ x y. closed 125 (dict k x) y)) (s, v) e in
     let r = then_some (read_type n q.1) (λ x y. closed 125 (dict q.0 x) y) (s, v) q.3 in
     let p = says_closed (dict q.0 r.0) s r.1 v r.3 in
-    y ∙ ap (λ (z : Text). 97 ∷ 123 ∷ z) (h u q.0 q.1 q.2 ∙ ap (λ (z : Text). printed q.0 ++ z) (h q.1 r.0 r.1 r.2 ∙ ap (λ (z : Text). printed r.0 ++ z) p.1)
-    ∙ sym (append_assoc (printed q.0) (printed r.0 ++ 125 ∷ []) v ∙ ap (λ (z : Text). printed q.0 ++ z) (append_assoc (printed r.0) (125 ∷ []) v)))
-    ∙ ap (λ (a : Shape). printed a ++ v) p.0
+    subst (λ (t : Shape). w ≡ printed t ++ v) p.0
+    (cc (p.1, h u q.0 q.1 q.2, h q.1 r.0 r.1 r.2, append_assoc (printed q.0) (printed r.0 ++ 125 ∷ []) v, append_assoc (printed r.0) (125 ∷ []) v))
 back_body n h k w (structures u) y s v e =
     let q = then_some (read_type n u) (λ t u. then (read_rest n u) (λ ts y. some (structure t ts, y))) (s, v) e in
     let r = then_some (read_rest n q.1) (λ ts y. some (structure q.0 ts, y)) (s, v) q.3 in
-    let p = same_pair (structure q.0 r.0) s r.1 v r.3 in
-    y ∙ ap (λ (z : Text). 40 ∷ z) (h u q.0 q.1 q.2 ∙ ap (λ (z : Text). printed q.0 ++ z) (k q.1 r.0 r.1 r.2)
-    ∙ sym (append_assoc (printed q.0) (printed_all r.0 ++ 41 ∷ []) r.1 ∙ ap (λ (z : Text). printed q.0 ++ z) (append_assoc (printed_all r.0) (41 ∷ []) r.1)))
-    ∙ ap₂ (λ (a : Shape) (b : Text). printed a ++ b) p.0 p.1
-back_body n h k w nothing y s v e = absurd (true≢false cc)
+    of_found (λ (t : Shape) (x : Text). w ≡ printed t ++ x) (structure q.0 r.0) s r.1 v r.3
+    (cc (h u q.0 q.1 q.2, k q.1 r.0 r.1 r.2, append_assoc (printed q.0) (printed_all r.0 ++ 41 ∷ []) r.1, append_assoc (printed_all r.0) (41 ∷ []) r.1))
+back_body n h k w nothing y s v e = cc
 
 back_rest : (n : ℕ) → Back n → Backs n → (w : Text) (o : Option Text) → closing w ≡ o → (ts : Shapes) (v : Text) → rest n w o ≡ some (ts, v) → w ≡ printed_all ts ++ 41 ∷ v
-back_rest n h k w (some u) c ts v e = let p = same_pair nil ts u v e in says_closing w u c ∙ ap₂ (λ (a : Shapes) (b : Text). printed_all a ++ 41 ∷ b) p.0 p.1
+back_rest n h k w (some u) c ts v e = of_found (λ (t : Shapes) (x : Text). w ≡ printed_all t ++ 41 ∷ x) nil ts u v e (says_closing w u c)
 back_rest n h k w none c ts v e =
     let q = then_some (read_type n w) (λ t u. then (read_rest n u) (λ ts y. some (more t ts, y))) (ts, v) e in
     let r = then_some (read_rest n q.1) (λ ts y. some (more q.0 ts, y)) (ts, v) q.3 in
-    let p = same_pair (more q.0 r.0) ts r.1 v r.3 in
-    h w q.0 q.1 q.2 ∙ ap (λ (z : Text). printed q.0 ++ z) (k q.1 r.0 r.1 r.2) ∙ sym (append_assoc (printed q.0) (printed_all r.0) (41 ∷ r.1))
-    ∙ ap₂ (λ (a : Shapes) (b : Text). printed_all a ++ 41 ∷ b) p.0 p.1
+    of_found (λ (t : Shapes) (x : Text). w ≡ printed_all t ++ 41 ∷ x) (more q.0 r.0) ts r.1 v r.3
+    (cc (h w q.0 q.1 q.2, k q.1 r.0 r.1 r.2, append_assoc (printed q.0) (printed_all r.0) (41 ∷ r.1)))
 
 both : (n : ℕ) → Back n × Backs n
 unfolding read_type read_rest
-both zero = (λ w s v e. absurd (true≢false cc), λ w ts v e. absurd (true≢false cc))
+both zero = (λ w s v e. cc, λ w ts v e. cc)
 both (suc n) = let i = both n in (
-  λ w s v e. back_body n i.0 i.1 w (front w) (says w) s v (sym (is_body n w (front w) refl) ∙ e),
-  λ w ts v e. back_rest n i.0 i.1 w (closing w) refl ts v (sym (is_rest n w (closing w) refl) ∙ e),
+  λ w s v e. back_body n i.0 i.1 w (front w) (says w) s v e,
+  λ w ts v e. back_rest n i.0 i.1 w (closing w) refl ts v e,
 )
 
 pub read_is : (w : Text) (s : Shape) → reading w ≡ some s → w ≡ printed s
@@ -143,9 +104,9 @@ unfolding reading
 read_is w s e = go (read_type (length w) w) refl e
   where
     go : (o : Found Shape) → read_type (length w) w ≡ o → whole o ≡ some s → w ≡ printed s
-    go none f e = absurd (true≢false cc)
-    go (some (t, [])) f e = (both (length w)).0 w t [] f ∙ append-nil (printed t) ∙ ap printed cc
-    go (some (t, b ∷ u)) f e = absurd (true≢false cc)
+    go none f e = cc
+    go (some (t, [])) f e = cc ((both (length w)).0 w t [] f, append-nil (printed t))
+    go (some (t, b ∷ u)) f e = cc
 
 -- types in a row
 abbrev joined : Shape → Option Shapes → Option Shapes
@@ -156,31 +117,19 @@ abbrev row : ℕ → Found Shape → Option Shapes
 row n none = none
 row n (some r) = joined r.0 (read_types n r.1)
 
-is_joined : (n b : ℕ) (w : Text) (r : Shape × Text) (o : Option Shapes) → read_type n (b ∷ w) ≡ some r → read_types n r.1 ≡ o → read_types (suc n) (b ∷ w) ≡ joined r.0 o
-unfolding read_types
-is_joined n b w r none e f = rw (e, read_types) (rw f)
-is_joined n b w r (some ts) e f = rw (e, read_types) (rw f)
-
-is_row : (n b : ℕ) (w : Text) (o : Found Shape) → read_type n (b ∷ w) ≡ o → read_types (suc n) (b ∷ w) ≡ row n o
-unfolding read_types
-is_row n b w none e = rw (e, read_types)
-is_row n b w (some r) e = is_joined n b w r (read_types n r.1) e refl
-
 tops : (n : ℕ) (w : Text) (ts : Shapes) → read_types n w ≡ some ts → w ≡ printed_all ts
 unfolding read_types
-tops n [] ts e = let z : nil ≡ ts = cc in ap printed_all z
-tops zero (b ∷ w) ts e = absurd (true≢false cc)
-tops (suc n) (b ∷ w) ts e = by (λ u us. tops n u us) (read_type n (b ∷ w)) refl
+tops n [] ts e = cc
+tops zero (b ∷ w) ts e = cc
+tops (suc n) (b ∷ w) ts e = by (λ u us. tops n u us) (read_type n (b ∷ w)) refl e
   where
     next : ((u : Text) (us : Shapes) → read_types n u ≡ some us → u ≡ printed_all us) → (t : Shape) (u : Text) → read_type n (b ∷ w) ≡ some (t, u) → (o : Option Shapes) → read_types n u ≡ o → joined t o ≡ some ts → b ∷ w ≡ printed_all ts
-    next i t u h none g f = absurd (true≢false cc)
-    next i t u h (some us) g f =
-        let z : more t us ≡ ts = cc in
-        (both n).0 (b ∷ w) t u h ∙ ap (λ (x : Text). printed t ++ x) (i u us g) ∙ ap printed_all z
+    next i t u h none g f = cc
+    next i t u h (some us) g f = cc ((both n).0 (b ∷ w) t u h, i u us g)
 
-    by : ((u : Text) (us : Shapes) → read_types n u ≡ some us → u ≡ printed_all us) → (o : Found Shape) → read_type n (b ∷ w) ≡ o → b ∷ w ≡ printed_all ts
-    by i none h = let f = sym (is_row n b w none h) ∙ e in absurd (true≢false cc)
-    by i (some (t, u)) h = next i t u h (read_types n u) refl (sym (is_row n b w (some (t, u)) h) ∙ e)
+    by : ((u : Text) (us : Shapes) → read_types n u ≡ some us → u ≡ printed_all us) → (o : Found Shape) → read_type n (b ∷ w) ≡ o → row n o ≡ some ts → b ∷ w ≡ printed_all ts
+    by i none h f = cc
+    by i (some (t, u)) h f = next i t u h (read_types n u) refl f
 
 pub read_all_is : (w : Text) (ts : Shapes) → read_all w ≡ some ts → w ≡ printed_all ts
 unfolding read_all

@@ -1,7 +1,7 @@
 -- The verdict of a run is what the grammar says of the text.
 use Rattle.std.proofs.Common.{◌≡◌, ℕ, suc, ◌+◌, ◌-◌, ◌<◌, ◌≤◌, ◌⊎◌, List, [], ◌∷◌, ◌++◌, length, get_or, take, drop, sym, refl, ap, ◌∙◌, subst, ap₂, inl, inr, append_assoc, append-nil, arith, length-append, length-drop, drop-cons, take_at, take-add, drop_at}
 use mathlib.Core.Option.{Option, none, some}
-use Rattle.std.proofs.lemmas.Bool.{cases_eq, cases_lt}
+use Rattle.std.proofs.lemmas.Bool.{cases_eq}
 use Rattle.grammar.specs.declared.error.Cause.{Cause}
 use Rattle.grammar.specs.declared.error.Cause.TheVariants.{Ended, TooDeep, Unexpected}
 use Rattle.grammar.specs.Shape.{Text, is_basic, Shape, basic}
@@ -9,8 +9,9 @@ use Rattle.grammar.specs.declared.error.Fault.{Fault}
 use Rattle.grammar.specs.Valid.{Valid, Start, Place, Because, FaultOf, StartAtAnyDepth}
 use Rattle.grammar.specs.Scan.{Frame, one, others, element, close, types, Step, go, stop, Verdict, good, bad, begin, step, final, run, top, fault_by, fault}
 use Rattle.grammar.specs.Laws.{OneFault, ScanIsExact, ExactlyOneFault}
-use Rattle.grammar.proofs.ScanSteps.{run_next, run_stop, run_good, run_one, run_others, run_element, run_close, begin_basic, step_one, step_types, step_none, step_others, step_others_end, step_element, step_element_pair, step_close, step_close_not, Begins, begins, is_code, is_maybe, is_array, is_structure, is_deep, is_other}
-use Rattle.grammar.proofs.ScanComplete.{complete_top, front}
+use Rattle.grammar.proofs.ScanSteps.{run_next, run_stop, step_others, step_element, step_close_not, begins, is_code, is_maybe, is_array, is_structure, is_deep, is_other}
+use Rattle.grammar.proofs.ScanComplete.{complete_top}
+use Rattle.grammar.proofs.ReadBack.{head}
 use Rattle.grammar.proofs.ScanSound.{sound}
 use Rattle.grammar.proofs.ScanRaise.{raise, raise_step, raise_deep}
 
@@ -21,19 +22,15 @@ pub good_valid : (w : Text) → run (top) w ≡ good → Valid w
 good_valid w e = let r = sound w (top) e in
     record { shapes = r.shapes; few_structures = r.few_structures; few_arrays = r.few_arrays; text = r.text ∙ rw r.then (append-nil _) }
 
-run_none : run [] [] ≡ good
-unfolding run final
-run_none = refl
-
 -- each stack has a text
 pub finish : (k : List Frame) → (x : Text) × (run k x ≡ good)
-unfolding is_basic
-finish [] = ([], run_none)
-finish (types s a ∷ k) = ([], run_good s a k)
-finish (one s a ∷ k) = let x = finish k in (121 ∷ x.0, run_next (one s a ∷ k) 121 k x.0 (step_one s a 121 k ∙ begin_basic s a 121 k refl) ∙ x.1)
-finish (others s a ∷ k) = let x = finish k in (41 ∷ x.0, run_next (others s a ∷ k) 41 k x.0 (step_others_end s a k) ∙ x.1)
-finish (element s a ∷ k) = let x = finish k in (121 ∷ x.0, run_next (element s a ∷ k) 121 k x.0 (step_element s a 121 k (omega arith) ∙ begin_basic s a 121 k refl) ∙ x.1)
-finish (close ∷ k) = let x = finish k in (125 ∷ x.0, run_next (close ∷ k) 125 k x.0 (step_close k) ∙ x.1)
+unfolding run final step begin is_basic
+finish [] = ([], refl)
+finish (types s a ∷ k) = ([], refl)
+finish (one s a ∷ k) = let x = finish k in (121 ∷ x.0, x.1)
+finish (others s a ∷ k) = let x = finish k in (41 ∷ x.0, x.1)
+finish (element s a ∷ k) = let x = finish k in (121 ∷ x.0, x.1)
+finish (close ∷ k) = let x = finish k in (125 ∷ x.0, x.1)
 
 abbrev Fails : List Frame → Cause → Text → Type 0
 Fails k c [] = c ≡ Ended
@@ -48,81 +45,43 @@ pub record Stuck (k : List Frame) (w : Text) (c : Cause) (r : Text) : Type 0 whe
   pub raised : (x : Text) → run (raise k) (before ++ x) ≡ run (raise stack) x
   pub fails : Fails stack c r
 
-same_cause : (c d : Cause) (r s : Text) → bad c r ≡ bad d s → c ≡ d
-same_cause c d r s e = cc
-
-same_rest : (c d : Cause) (r s : Text) → bad c r ≡ bad d s → r ≡ s
-same_rest c d r s e = cc
-
-bad_good : (c : Cause) (w : Text) → bad c w ≡ good → ⊥
-bad_good c w p = let z : ◌≡◌ {A = ℕ} 0 1 = cc in omega arith
-
 moved : (k : List Frame) (w : Text) (c d : Cause) (r s : Text) → bad c r ≡ bad d s → Stuck k w c r → Stuck k w d s
-moved k w c d r s e x = subst (λ (y : Text). Stuck k w d y) (same_rest c d r s e) (subst (λ (y : Cause). Stuck k w y r) (same_cause c d r s e) x)
+moved k w c d r s e x = let p : c ≡ d = cc in let q : r ≡ s = cc in subst (λ (y : Text). Stuck k w d y) q (subst (λ (y : Cause). Stuck k w y r) p x)
 
 ends : (k : List Frame) (c : Cause) (r : Text) → bad Ended [] ≡ bad c r → Stuck k [] c r
 ends k c r e = moved k [] Ended c [] r e (record { before = []; stack = k; text = refl; reach = λ x. refl; raised = λ x. refl; fails = refl })
 
 pub stuck : (w : Text) (k : List Frame) (c : Cause) (r : Text) → run k w ≡ bad c r → Stuck k w c r
-stuck [] [] c r e = absurd (bad_good c r (sym e ∙ run_none))
-stuck [] (types s a ∷ k) c r e = absurd (bad_good c r (sym e ∙ run_good s a k))
-stuck [] (one s a ∷ k) c r e = ends (one s a ∷ k) c r (sym (run_one s a k) ∙ e)
-stuck [] (others s a ∷ k) c r e = ends (others s a ∷ k) c r (sym (run_others s a k) ∙ e)
-stuck [] (element s a ∷ k) c r e = ends (element s a ∷ k) c r (sym (run_element s a k) ∙ e)
-stuck [] (close ∷ k) c r e = ends (close ∷ k) c r (sym (run_close k) ∙ e)
-stuck (b ∷ w) k c r e = stuck_by b w k c r e (stuck w) (step k b) refl
+unfolding run final
+stuck [] [] c r e = cc
+stuck [] (types s a ∷ k) c r e = cc
+stuck [] (one s a ∷ k) c r e = ends (one s a ∷ k) c r e
+stuck [] (others s a ∷ k) c r e = ends (others s a ∷ k) c r e
+stuck [] (element s a ∷ k) c r e = ends (element s a ∷ k) c r e
+stuck [] (close ∷ k) c r e = ends (close ∷ k) c r e
+stuck (b ∷ w) k c r e = by (stuck w) (step k b) refl
   where
-    stuck_by : (b : ℕ) (w : Text) (k : List Frame) (c : Cause) (r : Text) → run k (b ∷ w) ≡ bad c r → ((l : List Frame) (d : Cause) (s : Text) → run l w ≡ bad d s → Stuck l w d s) → (x : Step) → step k b ≡ x → Stuck k (b ∷ w) c r
-    stuck_by b w k c r e ih (go l) h = let t = ih l c r (sym (run_next k b l w h) ∙ e) in
+    by : ((l : List Frame) (d : Cause) (s : Text) → run l w ≡ bad d s → Stuck l w d s) → (x : Step) → step k b ≡ x → Stuck k (b ∷ w) c r
+    by ih (go l) h = let t = ih l c r (sym (run_next k b l w h) ∙ e) in
         record { before = b ∷ t.before; stack = t.stack; text = ap (λ (x : Text). b ∷ x) t.text; reach = λ x. run_next k b l (t.before ++ x) h ∙ t.reach x; raised = λ x. run_next (raise k) b (raise l) (t.before ++ x) (raise_step k b l h) ∙ t.raised x; fails = t.fails }
-    stuck_by b w k c r e ih (stop d) h =
+    by ih (stop d) h =
         moved k (b ∷ w) d c (b ∷ w) r (sym (run_stop k b d w h) ∙ e) (record { before = []; stack = k; text = refl; reach = λ x. refl; raised = λ x. refl; fails = h })
 
--- what a stop says of the byte and the stack
-step_apart : (x : Step) (l : List Frame) (c : Cause) → x ≡ go l → x ≡ stop c → ⊥
-step_apart x l c p q = let z : ◌≡◌ {A = ℕ} 0 1 = cc in omega arith
+-- what a stop says of the byte
+abbrev Stops : ℕ → Cause → Type 0
+Stops b Ended = ⊥
+Stops b TooDeep = (b ≡ 97) ⊎ (b ≡ 40)
+Stops b Unexpected = (b ≡ 97) ⊎ (b ≡ 40) → ⊥
 
-ended_unexpected : (x : Step) → x ≡ stop Ended → x ≡ stop Unexpected → ⊥
-ended_unexpected x p q = let z : ◌≡◌ {A = ℕ} 0 1 = cc in omega arith
-
-ended_deep : (x : Step) → x ≡ stop Ended → x ≡ stop TooDeep → ⊥
-ended_deep x p q = let z : ◌≡◌ {A = ℕ} 0 1 = cc in omega arith
-
-deep_unexpected : (x : Step) → x ≡ stop TooDeep → x ≡ stop Unexpected → ⊥
-deep_unexpected x p q = let z : ◌≡◌ {A = ℕ} 0 1 = cc in omega arith
-
-never_ended_begin : (s a b : ℕ) (k : List Frame) → begin s a b k ≡ stop Ended → ⊥
-never_ended_begin s a b k e = by (begins s a b k)
-  where
-    by : Begins s a b k → ⊥
-    by (is_code h g) = step_apart (begin s a b k) _ Ended g e
-    by (is_maybe q g) = step_apart (begin s a b k) _ Ended g e
-    by (is_array q h g) = step_apart (begin s a b k) _ Ended g e
-    by (is_structure q h g) = step_apart (begin s a b k) _ Ended g e
-    by (is_deep q g) = ended_deep (begin s a b k) e g
-    by (is_other p q g) = ended_unexpected (begin s a b k) e g
-
-deep_begin : (s a b : ℕ) (k : List Frame) → begin s a b k ≡ stop TooDeep → (b ≡ 97) ⊎ (b ≡ 40)
-deep_begin s a b k e = by (begins s a b k)
-  where
-    by : Begins s a b k → (b ≡ 97) ⊎ (b ≡ 40)
-    by (is_code h g) = absurd (step_apart (begin s a b k) _ TooDeep g e)
-    by (is_maybe q g) = absurd (step_apart (begin s a b k) _ TooDeep g e)
-    by (is_array q h g) = absurd (step_apart (begin s a b k) _ TooDeep g e)
-    by (is_structure q h g) = absurd (step_apart (begin s a b k) _ TooDeep g e)
-    by (is_deep q g) = q
-    by (is_other p q g) = absurd (deep_unexpected (begin s a b k) e g)
-
-unexpected_begin : (s a b : ℕ) (k : List Frame) → begin s a b k ≡ stop Unexpected → (b ≡ 97) ⊎ (b ≡ 40) → ⊥
-unexpected_begin s a b k e o = by (begins s a b k)
-  where
-    by : Begins s a b k → ⊥
-    by (is_code h g) = step_apart (begin s a b k) _ Unexpected g e
-    by (is_maybe q g) = step_apart (begin s a b k) _ Unexpected g e
-    by (is_array q h g) = step_apart (begin s a b k) _ Unexpected g e
-    by (is_structure q h g) = step_apart (begin s a b k) _ Unexpected g e
-    by (is_deep q g) = deep_unexpected (begin s a b k) g e
-    by (is_other p q g) = elim o [ inl x ↦ p x | inr x ↦ q x ]
+stops : (s a b : ℕ) (k : List Frame) (c : Cause) → begin s a b k ≡ stop c → Stops b c
+stops s a b k c e = elim (begins s a b k) [
+  | is_code h g ↦ cc
+  | is_maybe q g ↦ cc
+  | is_array q h g ↦ cc
+  | is_structure q h g ↦ cc
+  | is_deep q g ↦ let z : TooDeep ≡ c = cc in subst (Stops b) z q
+  | is_other p q g ↦ let z : Unexpected ≡ c = cc in subst (Stops b) z (λ o. elim o [ inl x ↦ p x | inr x ↦ q x ])
+]
 
 -- a stack's first byte: a type's, where one may begin, or another
 data Top (k : List Frame) (b : ℕ) : Type 0 where
@@ -131,51 +90,26 @@ data Top (k : List Frame) (b : ℕ) : Type 0 where
   closes : step k b ≡ stop Unexpected → ((x : ℕ) → (x ≡ 125 → ⊥) → step k x ≡ stop Unexpected) → Top k b
 
 first : (k : List Frame) (b : ℕ) → Top k b
-unfolding is_basic
-first [] b = closes (step_none b) (λ x h. step_none x)
-first (types s a ∷ k) b = opening s a (types s a ∷ k) (step_types s a b k) (step_types s a 121 k ∙ begin_basic s a 121 (types s a ∷ k) refl)
-first (one s a ∷ k) b = opening s a k (step_one s a b k) (step_one s a 121 k ∙ begin_basic s a 121 k refl)
-first (others s a ∷ k) b = elim (cases_eq b 41) [
-  | inl q ↦ goes k (rw q (step_others_end s a k))
-  | inr q ↦ opening s a (others s a ∷ k) (step_others s a b k q) (step_others s a 121 k (omega arith) ∙ begin_basic s a 121 (others s a ∷ k) refl)
-]
-first (element s a ∷ k) b = elim (cases_eq b 123) [
-  | inl q ↦ goes (one s a ∷ one s a ∷ close ∷ k) (rw q (step_element_pair s a k))
-  | inr q ↦ opening s a k (step_element s a b k q) (step_element s a 121 k (omega arith) ∙ begin_basic s a 121 k refl)
-]
-first (close ∷ k) b = elim (cases_eq b 125) [
-  | inl q ↦ goes k (rw q (step_close k))
-  | inr q ↦ closes (step_close_not b k q) (λ x h. step_close_not x k h)
-]
+unfolding step begin is_basic
+first [] b = closes refl (λ x h. refl)
+first (types s a ∷ k) b = opening s a (types s a ∷ k) refl refl
+first (one s a ∷ k) b = opening s a k refl refl
+first (others s a ∷ k) b = elim (cases_eq b 41) [ inl q ↦ goes k (rw q) | inr q ↦ opening s a (others s a ∷ k) (step_others s a b k q) refl ]
+first (element s a ∷ k) b = elim (cases_eq b 123) [ inl q ↦ goes (one s a ∷ one s a ∷ close ∷ k) (rw q) | inr q ↦ opening s a k (step_element s a b k q) refl ]
+first (close ∷ k) b = elim (cases_eq b 125) [ inl q ↦ goes k (rw q) | inr q ↦ closes (step_close_not b k q) (λ x h. step_close_not x k h) ]
 
 never_ended : (k : List Frame) (b : ℕ) → step k b ≡ stop Ended → ⊥
-never_ended k b e = by (first k b)
-  where
-    by : Top k b → ⊥
-    by (opening s a l h g) = never_ended_begin s a b l (sym h ∙ e)
-    by (goes l h) = step_apart (step k b) l Ended h e
-    by (closes h g) = ended_unexpected (step k b) e h
+never_ended k b e = elim (first k b) [ opening s a l h g ↦ stops s a b l Ended (sym h ∙ e) | goes l h ↦ cc | closes h g ↦ cc ]
 
 deep_opens : (k : List Frame) (b : ℕ) → step k b ≡ stop TooDeep → ((b ≡ 97) ⊎ (b ≡ 40)) × ((l : List Frame) × (step k 121 ≡ go l))
-deep_opens k b e = by (first k b)
-  where
-    by : Top k b → ((b ≡ 97) ⊎ (b ≡ 40)) × ((l : List Frame) × (step k 121 ≡ go l))
-    by (opening s a l h g) = (deep_begin s a b l (sym h ∙ e), (l, g))
-    by (goes l h) = absurd (step_apart (step k b) l TooDeep h e)
-    by (closes h g) = absurd (deep_unexpected (step k b) e h)
+deep_opens k b e = elim (first k b) [ opening s a l h g ↦ (stops s a b l TooDeep (sym h ∙ e), (l, g)) | goes l h ↦ cc | closes h g ↦ cc ]
 
 unexpected_all : (k : List Frame) (b : ℕ) → step k b ≡ stop Unexpected → (b ≡ 97) ⊎ (b ≡ 40) → (x : ℕ) → (x ≡ 125 → ⊥) → step k x ≡ stop Unexpected
-unexpected_all k b e o x n = by (first k b)
-  where
-    by : Top k b → step k x ≡ stop Unexpected
-    by (opening s a l h g) = absurd (unexpected_begin s a b l (sym h ∙ e) o)
-    by (goes l h) = absurd (step_apart (step k b) l Unexpected h e)
-    by (closes h g) = g x n
+unexpected_all k b e o x n = elim (first k b) [ opening s a l h g ↦ absurd (stops s a b l Unexpected (sym h ∙ e) o) | goes l h ↦ cc | closes h g ↦ g x n ]
 
 -- a text that goes on from where a run broke off, by a byte at which it stops, is not valid
 dead : (before y : Text) (k : List Frame) (b : ℕ) (c : Cause) → ((x : Text) → run (top) (before ++ x) ≡ run k x) → step k b ≡ stop c → Valid (before ++ (b ∷ y)) → ⊥
-dead before y k b c reach h v =
-    bad_good c (b ∷ y) (sym (run_stop k b c y h) ∙ sym (reach (b ∷ y)) ∙ valid_good (before ++ (b ∷ y)) v)
+dead before y k b c reach h v = cc (run_stop k b c y h, reach (b ∷ y), valid_good (before ++ (b ∷ y)) v)
 
 begun : (before : Text) (k l : List Frame) → ((x : Text) → run (top) (before ++ x) ≡ run k x) → step k 121 ≡ go l → Start (before ++ 121 ∷ [])
 begun before k l reach h = let x = finish l in
@@ -185,29 +119,14 @@ y : Shape
 unfolding is_basic
 y = basic 121 refl
 
-nil_cons : (b : ℕ) (r : Text) → ◌≡◌ {A = Text} [] (b ∷ r) → ⊥
-nil_cons b r p = let z : ◌≡◌ {A = ℕ} 0 1 = cc in omega arith
-
-ended_not_deep : (c : Cause) → c ≡ Ended → c ≡ TooDeep → ⊥
-ended_not_deep c p q = let z : ◌≡◌ {A = ℕ} 0 1 = cc in omega arith
-
-ended_not_unexpected : (c : Cause) → c ≡ Ended → c ≡ Unexpected → ⊥
-ended_not_unexpected c p q = let z : ◌≡◌ {A = ℕ} 0 1 = cc in omega arith
-
-head_is : (b d : ℕ) (r s : Text) → b ∷ r ≡ d ∷ s → b ≡ d
-head_is b d r s e = cc
-
 module _ (w : Text) (n : ℕ) (within : n ≤ length w) (before : Text) (k : List Frame)
     (is-take : take n w ≡ before) (reach : (x : Text) → run (top) (before ++ x) ≡ run k x)
     (raised : (x : Text) → run (types 33 33 ∷ []) (before ++ x) ≡ run (raise k) x) where
-  here : n < length w → drop n w ≡ get_or w n 0 ∷ drop (suc n) w
-  here h = drop-cons w n 0 h
-
   short : (b : ℕ) (r : Text) → drop n w ≡ b ∷ r → n < length w
   short b r e = omega (arith, ap length e, length-drop n w)
 
   byte : (b : ℕ) (r : Text) → drop n w ≡ b ∷ r → get_or w n 0 ≡ b
-  byte b r e = head_is (get_or w n 0) b (drop (suc n) w) r (sym (here (short b r e)) ∙ e)
+  byte b r e = cc (drop-cons w n 0 (short b r e))
 
   starts : Start (take n w)
   starts = let x = finish k in
@@ -232,14 +151,14 @@ module _ (w : Text) (n : ℕ) (within : n ≤ length w) (before : Text) (k : Lis
   because : (c : Cause) (r : Text) → drop n w ≡ r → Fails k c r → Because w n c
   unfolding y
   because Ended [] e f = omega (arith, ap length e, length-drop n w)
-  because TooDeep [] e f = absurd (ended_not_deep TooDeep f refl)
-  because Unexpected [] e f = absurd (ended_not_unexpected Unexpected f refl)
+  because TooDeep [] e f = cc
+  because Unexpected [] e f = cc
   because Ended (b ∷ r) e f = absurd (never_ended k b f)
   because TooDeep (b ∷ r) e f = let o = deep_opens k b f in
       (short b r e, record { opens = rw (byte b r e) o.0; shape = y; begins = rw is-take (begun before k o.1.0 reach o.1.1); alone = loose b r e o.0 f })
   because Unexpected (b ∷ r) e f = (
     short b r e,
-    λ d. let x = front d.shape in
+    λ d. let x = head d.shape in
         dead before (x.tail ++ d.begins.rest) k x.byte Unexpected reach
         (unexpected_all k b f (rw (byte b r e) at d.opens) x.byte x.no_end)
         (rw (is-take, x.text, append_assoc) at d.begins.valid),
@@ -252,28 +171,22 @@ is_fault w c n within e =
     let long : length s.before ≡ n = omega (arith, ap length s.text, length-append s.before (drop n w), length-drop n w) in
     let is-take : take n w ≡ s.before = ap (λ (x : Text). take n x) s.text ∙ take_at s.before (drop n w) n long in
     record {
-      invalid = λ v. bad_good c (drop n w) (sym e ∙ valid_good w v);
+      invalid = λ v. cc (valid_good w v);
       place = record { within = within; start = starts w n within s.before s.stack is-take s.reach s.raised; longest = longest w n within s.before s.stack is-take s.reach s.raised c (drop n w) refl s.fails };
       because = because w n within s.before s.stack is-take s.reach s.raised c (drop n w) refl s.fails;
     }
 
 -- a text has one fault at most
 one_place : (w : Text) (j k : ℕ) → Place w j → Place w k → j ≡ k
-one_place w j k p q = elim (cases_lt j k) [
-  | inl h ↦ absurd (p.longest k h q.within q.start)
-  | inr h ↦ elim (cases_lt k j) [ inl g ↦ absurd (q.longest j g p.within p.start) | inr g ↦ omega arith ]
-]
+one_place w j k p q = grind (arith, p.longest k, q.longest j, p.start, q.start)
 
 one_cause : (w : Text) (k : ℕ) (c d : Cause) → Because w k c → Because w k d → c ≡ d
 one_cause w k Ended Ended p q = refl
-one_cause w k Ended TooDeep p q = absurd (omega (arith, p, q.0))
-one_cause w k Ended Unexpected p q = absurd (omega (arith, p, q.0))
-one_cause w k TooDeep Ended p q = absurd (omega (arith, q, p.0))
 one_cause w k TooDeep TooDeep p q = refl
-one_cause w k TooDeep Unexpected p q = absurd (q.1 p.1)
-one_cause w k Unexpected Ended p q = absurd (omega (arith, q, p.0))
-one_cause w k Unexpected TooDeep p q = absurd (p.1 q.1)
 one_cause w k Unexpected Unexpected p q = refl
+one_cause w k TooDeep Unexpected p q = absurd (q.1 p.1)
+one_cause w k Unexpected TooDeep p q = absurd (p.1 q.1)
+one_cause w k c d p q = absurd (omega arith)
 
 pub same_fault : (w : Text) (f g : Fault) → FaultOf w f → FaultOf w g → f ≡ g
 same_fault w f g p q =
@@ -293,7 +206,7 @@ unfolding fault
 scans w f e = by (run top w) refl e
   where
     by : (v : Verdict) → run top w ≡ v → fault_by w v ≡ some f → FaultOf w f
-    by good h g = let z : ◌≡◌ {A = ℕ} 0 1 = cc in absurd (omega arith)
+    by good h g = cc
     by (bad c r) h g =
         let same : record { cause = c; place = length w - length r } ≡ f = cc in
         subst (λ (x : Fault). FaultOf w x) same (is_fault w c (length w - length r) (omega arith) (h ∙ ap (λ (x : Text). bad c x) (left_is w r c h)))
@@ -304,7 +217,7 @@ scans_valid w e = by (run top w) refl e
   where
     by : (v : Verdict) → run top w ≡ v → fault_by w v ≡ none → Valid w
     by good h g = good_valid w h
-    by (bad c r) h g = let z : ◌≡◌ {A = ℕ} 0 1 = cc in absurd (omega arith)
+    by (bad c r) h g = cc
 
 pub valid_scans : (w : Text) → Valid w → fault w ≡ none
 unfolding fault

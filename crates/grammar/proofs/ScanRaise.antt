@@ -1,10 +1,9 @@
 -- A run with one more structure and array allowed everywhere goes at least as far.
 use Rattle.std.proofs.Common.{◌≡◌, ℕ, ◌+◌, ◌-◌, ◌⊎◌, List, [], ◌∷◌, sym, ap, ◌∙◌, inl, inr, arith}
 use Rattle.std.proofs.lemmas.Bool.{cases_eq}
-use Rattle.grammar.specs.declared.error.Cause.{Cause}
-use Rattle.grammar.specs.declared.error.Cause.TheVariants.{TooDeep, Unexpected}
-use Rattle.grammar.specs.Scan.{Frame, one, others, element, close, types, Step, go, stop, begin, step}
-use Rattle.grammar.proofs.ScanSteps.{begin_basic, begin_maybe, begin_array, begin_structure, step_one, step_types, step_none, step_others, step_others_end, step_element, step_element_pair, step_close, step_close_not, Begins, begins, is_code, is_maybe, is_array, is_structure, is_deep, is_other}
+use Rattle.grammar.specs.declared.error.Cause.TheVariants.{TooDeep}
+use Rattle.grammar.specs.Scan.{Frame, one, others, element, close, types, go, stop, begin, step}
+use Rattle.grammar.proofs.ScanSteps.{begin_basic, begin_maybe, begin_array, begin_structure, step_others, step_element, step_close_not, begins, is_code, is_maybe, is_array, is_structure, is_deep, is_other}
 
 abbrev pub raise : List Frame → List Frame
 raise [] = []
@@ -14,49 +13,30 @@ raise (element s a ∷ k) = element (s + 1) (a + 1) ∷ raise k
 raise (close ∷ k) = close ∷ raise k
 raise (types s a ∷ k) = types (s + 1) (a + 1) ∷ raise k
 
-apart : (x : Step) (l : List Frame) (c : Cause) → x ≡ go l → x ≡ stop c → ⊥
-apart x l c p q = let z : ◌≡◌ {A = ℕ} 0 1 = cc in omega arith
-
-deep_unexpected : (x : Step) → x ≡ stop TooDeep → x ≡ stop Unexpected → ⊥
-deep_unexpected x p q = let z : ◌≡◌ {A = ℕ} 0 1 = cc in omega arith
-
-same_go : (x : Step) (l m : List Frame) → x ≡ go l → x ≡ go m → l ≡ m
-same_go x l m p q = cc
-
 raise_begin : (s a b : ℕ) (k l : List Frame) → begin s a b k ≡ go l → begin (s + 1) (a + 1) b (raise k) ≡ go (raise l)
-raise_begin s a b k l e = by (begins s a b k)
-  where
-    to : (m : List Frame) → begin s a b k ≡ go m → go (raise m) ≡ go (raise l)
-    to m g = ap (λ x. go (raise x)) (same_go (begin s a b k) m l g e)
-
-    by : Begins s a b k → begin (s + 1) (a + 1) b (raise k) ≡ go (raise l)
-    by (is_code h g) = begin_basic (s + 1) (a + 1) b (raise k) h ∙ to k g
-    by (is_maybe q g) = ap (λ x. begin (s + 1) (a + 1) x (raise k)) q ∙ begin_maybe (s + 1) (a + 1) (raise k) ∙ to (one s a ∷ k) g
-    by (is_array q h g) =
-        let same : a + 1 - 1 ≡ a - 1 + 1 = omega arith in
-        ap (λ x. begin (s + 1) (a + 1) x (raise k)) q ∙ begin_array (s + 1) (a + 1) (raise k) (omega arith) ∙ ap (λ x. go (element (s + 1) x ∷ raise k)) same ∙ to (element s (a - 1) ∷ k) g
-    by (is_structure q h g) =
-        let same : s + 1 - 1 ≡ s - 1 + 1 = omega arith in
-        ap (λ x. begin (s + 1) (a + 1) x (raise k)) q ∙ begin_structure (s + 1) (a + 1) (raise k) (omega arith) ∙ ap (λ x. go (one x (a + 1) ∷ others x (a + 1) ∷ raise k)) same ∙ to (one (s - 1) a ∷ others (s - 1) a ∷ k) g
-    by (is_deep q g) = absurd (apart (begin s a b k) l TooDeep e g)
-    by (is_other p q g) = absurd (apart (begin s a b k) l Unexpected e g)
+raise_begin s a b k l e = elim (begins s a b k) [
+  | is_code h g ↦ cc (begin_basic (s + 1) (a + 1) b (raise k) h)
+  | is_maybe q g ↦ cc (begin_maybe (s + 1) (a + 1) (raise k))
+  | is_array q h g ↦ let same : a + 1 - 1 ≡ a - 1 + 1 = omega arith in cc (begin_array (s + 1) (a + 1) (raise k) (omega arith))
+  | is_structure q h g ↦ let same : s + 1 - 1 ≡ s - 1 + 1 = omega arith in cc (begin_structure (s + 1) (a + 1) (raise k) (omega arith))
+  | is_deep q g ↦ cc
+  | is_other p q g ↦ cc
+]
 
 pub raise_step : (k : List Frame) (b : ℕ) (l : List Frame) → step k b ≡ go l → step (raise k) b ≡ go (raise l)
-raise_step [] b l e = absurd (apart (step [] b) l Unexpected e (step_none b))
-raise_step (one s a ∷ k) b l e = step_one (s + 1) (a + 1) b (raise k) ∙ raise_begin s a b k l (sym (step_one s a b k) ∙ e)
-raise_step (types s a ∷ k) b l e = step_types (s + 1) (a + 1) b (raise k) ∙ raise_begin s a b (types s a ∷ k) l (sym (step_types s a b k) ∙ e)
+unfolding step
+raise_step [] b l e = cc
+raise_step (one s a ∷ k) b l e = raise_begin s a b k l e
+raise_step (types s a ∷ k) b l e = raise_begin s a b (types s a ∷ k) l e
 raise_step (others s a ∷ k) b l e = elim (cases_eq b 41) [
-  | inl q ↦ ap (λ x. step (raise (others s a ∷ k)) x) q ∙ step_others_end (s + 1) (a + 1) (raise k) ∙ ap (λ x. go (raise x)) (same_go (step (others s a ∷ k) b) k l (ap (λ x. step (others s a ∷ k) x) q ∙ step_others_end s a k) e)
+  | inl q ↦ cc
   | inr q ↦ step_others (s + 1) (a + 1) b (raise k) q ∙ raise_begin s a b (others s a ∷ k) l (sym (step_others s a b k q) ∙ e)
 ]
 raise_step (element s a ∷ k) b l e = elim (cases_eq b 123) [
-  | inl q ↦ ap (λ x. step (raise (element s a ∷ k)) x) q ∙ step_element_pair (s + 1) (a + 1) (raise k) ∙ ap (λ x. go (raise x)) (same_go (step (element s a ∷ k) b) (one s a ∷ one s a ∷ close ∷ k) l (ap (λ x. step (element s a ∷ k) x) q ∙ step_element_pair s a k) e)
+  | inl q ↦ cc
   | inr q ↦ step_element (s + 1) (a + 1) b (raise k) q ∙ raise_begin s a b k l (sym (step_element s a b k q) ∙ e)
 ]
-raise_step (close ∷ k) b l e = elim (cases_eq b 125) [
-  | inl q ↦ ap (λ x. step (raise (close ∷ k)) x) q ∙ step_close (raise k) ∙ ap (λ x. go (raise x)) (same_go (step (close ∷ k) b) k l (ap (λ x. step (close ∷ k) x) q ∙ step_close k) e)
-  | inr q ↦ absurd (apart (step (close ∷ k) b) l Unexpected e (step_close_not b k q))
-]
+raise_step (close ∷ k) b l e = elim (cases_eq b 125) [ inl q ↦ cc | inr q ↦ cc (step_close_not b k q) ]
 
 opens : (s a b : ℕ) (k : List Frame) → (b ≡ 97) ⊎ (b ≡ 40) → (l : List Frame) × (begin (s + 1) (a + 1) b k ≡ go l)
 opens s a b k o = elim o [
@@ -66,9 +46,10 @@ opens s a b k o = elim o [
 
 -- what only the depth forbids is allowed then
 pub raise_deep : (k : List Frame) (b : ℕ) → (b ≡ 97) ⊎ (b ≡ 40) → step k b ≡ stop TooDeep → (l : List Frame) × (step (raise k) b ≡ go l)
-raise_deep [] b o e = absurd (deep_unexpected (step [] b) e (step_none b))
-raise_deep (one s a ∷ k) b o e = let x = opens s a b (raise k) o in (x.0, step_one (s + 1) (a + 1) b (raise k) ∙ x.1)
-raise_deep (types s a ∷ k) b o e = let x = opens s a b (raise (types s a ∷ k)) o in (x.0, step_types (s + 1) (a + 1) b (raise k) ∙ x.1)
-raise_deep (others s a ∷ k) b o e = let x = opens s a b (raise (others s a ∷ k)) o in (x.0, step_others (s + 1) (a + 1) b (raise k) (λ q. omega arith) ∙ x.1)
-raise_deep (element s a ∷ k) b o e = let x = opens s a b (raise k) o in (x.0, step_element (s + 1) (a + 1) b (raise k) (λ q. omega arith) ∙ x.1)
-raise_deep (close ∷ k) b o e = absurd (deep_unexpected (step (close ∷ k) b) e (step_close_not b k (λ q. omega arith)))
+unfolding step
+raise_deep [] b o e = cc
+raise_deep (one s a ∷ k) b o e = opens s a b (raise k) o
+raise_deep (types s a ∷ k) b o e = opens s a b (raise (types s a ∷ k)) o
+raise_deep (others s a ∷ k) b o e = let x = opens s a b (raise (others s a ∷ k)) o in (x.0, step_others (s + 1) (a + 1) b (raise k) (omega arith) ∙ x.1)
+raise_deep (element s a ∷ k) b o e = let x = opens s a b (raise k) o in (x.0, step_element (s + 1) (a + 1) b (raise k) (omega arith) ∙ x.1)
+raise_deep (close ∷ k) b o e = cc (step_close_not b k (omega arith))

@@ -1,12 +1,10 @@
 -- A text that is read to its end is that of shapes.
-use Rattle.std.proofs.Common.{◌≡◌, ℕ, ◌+◌, ◌-◌, ◌<◌, ◌≤◌, ◌⊎◌, List, [], ◌∷◌, ◌++◌, sym, refl, ap, ◌∙◌, subst, inl, inr, append_assoc, arith}
+use Rattle.std.proofs.Common.{◌≡◌, ℕ, ◌+◌, ◌-◌, ◌<◌, ◌≤◌, List, [], ◌∷◌, ◌++◌, sym, refl, ap, ◌∙◌, subst, inl, inr, append_assoc, arith}
 use Rattle.std.proofs.lemmas.Bool.{cases_eq}
-use Rattle.grammar.specs.declared.error.Cause.{Cause}
-use Rattle.grammar.specs.declared.error.Cause.TheVariants.{Ended, TooDeep, Unexpected}
 use Rattle.grammar.specs.Shape.{Text, Shape, basic, array, dict, structure, maybe, Shapes, nil, more, printed, printed_all}
 use Rattle.grammar.specs.Depth.{structure_depth, structure_depths, array_depth, array_depths}
-use Rattle.grammar.specs.Scan.{Frame, one, others, element, close, types, Step, go, stop, good, bad, begin, step, run}
-use Rattle.grammar.proofs.ScanSteps.{run_next, run_stop, run_one, run_others, run_element, run_close, step_one, step_types, step_none, step_others, step_others_end, step_element, step_element_pair, step_close, step_close_not, Begins, begins, is_code, is_maybe, is_array, is_structure, is_deep, is_other}
+use Rattle.grammar.specs.Scan.{Frame, one, others, element, close, types, Step, go, stop, good, begin, step, final, run}
+use Rattle.grammar.proofs.ScanSteps.{run_next, run_stop, step_others, step_element, step_close_not, Begins, begins, is_code, is_maybe, is_array, is_structure, is_deep, is_other}
 
 -- a text begins with a type, and then comes what R says
 pub record Typed (s a : ℕ) (w : Text) (R : Text → Type 0) : Type 0 where
@@ -38,12 +36,6 @@ Reads (others s a ∷ k) w = Listed s a w (λ v. Next 41 v (Reads k))
 Reads (element s a ∷ k) w = Typed s (a + 1) (97 ∷ w) (Reads k)
 Reads (close ∷ k) w = Next 125 w (Reads k)
 Reads (types s a ∷ k) w = Listed s a w (λ v. v ≡ [])
-
-apart : (x : Step) (l : List Frame) (c : Cause) → x ≡ go l → x ≡ stop c → ⊥
-apart x l c p q = let z : ◌≡◌ {A = ℕ} 0 1 = cc in omega arith
-
-same_go : (x : Step) (l m : List Frame) → x ≡ go l → x ≡ go m → m ≡ l
-same_go x l m p q = cc
 
 of_maybe : (s a b : ℕ) (w : Text) (R : Text → Type 0) → b ≡ 109 → Typed s a w R → Typed s a (b ∷ w) R
 of_maybe s a b w R q t = record { shape = maybe t.shape; few_structures = t.few_structures; few_arrays = t.few_arrays; tail = t.tail; text = rw q (ap (λ (x : Text). 109 ∷ x) t.text); then = t.then }
@@ -77,15 +69,15 @@ back_begin : (s a b : ℕ) (k l : List Frame) (w : Text) → begin s a b k ≡ g
 back_begin s a b k l w e r = by (begins s a b k)
   where
     at : (m : List Frame) → begin s a b k ≡ go m → Reads m w
-    at m h = subst (λ (x : List Frame). Reads x w) (same_go (begin s a b k) m l h e) r
+    at m h = let z : l ≡ m = cc in subst (λ (x : List Frame). Reads x w) z r
 
     by : Begins s a b k → Typed s a (b ∷ w) (Reads k)
     by (is_code h g) = record { shape = basic b h; few_structures = omega arith; few_arrays = omega arith; tail = w; text = refl; then = at k g }
     by (is_maybe q g) = of_maybe s a b w (Reads k) q (at (one s a ∷ k) g)
     by (is_array q h g) = of_array s a b w (Reads k) q h (at (element s (a - 1) ∷ k) g)
     by (is_structure q h g) = of_structure s a b w (Reads k) q h (at (one (s - 1) a ∷ others (s - 1) a ∷ k) g)
-    by (is_deep q g) = absurd (apart (begin s a b k) l TooDeep e g)
-    by (is_other p q g) = absurd (apart (begin s a b k) l Unexpected e g)
+    by (is_deep q g) = cc
+    by (is_other p q g) = cc
 
 -- one more type before the others
 cons : (s a : ℕ) (w : Text) (R : Text → Type 0) → Typed s a w (λ v. Listed s a v R) → Listed s a w R
@@ -100,46 +92,41 @@ cons s a w R t = let ts = t.then in
     }
 
 back : (k : List Frame) (b : ℕ) (l : List Frame) (w : Text) → step k b ≡ go l → Reads l w → Reads k (b ∷ w)
-back [] b l w e r = absurd (apart (step [] b) l Unexpected e (step_none b))
-back (types s a ∷ k) b l w e r = cons s a (b ∷ w) (λ v. v ≡ []) (back_begin s a b (types s a ∷ k) l w (sym (step_types s a b k) ∙ e) r)
-back (one s a ∷ k) b l w e r = back_begin s a b k l w (sym (step_one s a b k) ∙ e) r
-back (others s a ∷ k) b l w e r = by (cases_eq b 41)
-  where
-    by : (b ≡ 41) ⊎ (b ≡ 41 → ⊥) → Reads (others s a ∷ k) (b ∷ w)
-    by (inl q) = record {
-      shapes = nil;
-      few_structures = omega arith;
-      few_arrays = omega arith;
-      tail = b ∷ w;
-      text = refl;
-      then = record { tail = w; text = rw q refl; then = subst (λ (x : List Frame). Reads x w) (same_go (step (others s a ∷ k) b) k l (rw q (step_others_end s a k)) e) r };
-    }
-    by (inr q) = cons s a (b ∷ w) (λ v. Next 41 v (Reads k)) (back_begin s a b (others s a ∷ k) l w (sym (step_others s a b k q) ∙ e) r)
-back (element s a ∷ k) b l w e r = by (cases_eq b 123)
-  where
-    by : (b ≡ 123) ⊎ (b ≡ 123 → ⊥) → Reads (element s a ∷ k) (b ∷ w)
-    by (inl q) =
-        of_dictionary s a b w (Reads k) q (subst (λ (x : List Frame). Reads x w) (same_go (step (element s a ∷ k) b) (one s a ∷ one s a ∷ close ∷ k) l (rw q (step_element_pair s a k)) e) r)
-    by (inr q) = let t = back_begin s a b k l w (sym (step_element s a b k q) ∙ e) r in
-        record { shape = array t.shape; few_structures = t.few_structures; few_arrays = omega (arith, t.few_arrays); tail = t.tail; text = ap (λ (x : Text). 97 ∷ x) t.text; then = t.then }
-back (close ∷ k) b l w e r = by (cases_eq b 125)
-  where
-    by : (b ≡ 125) ⊎ (b ≡ 125 → ⊥) → Reads (close ∷ k) (b ∷ w)
-    by (inl q) = record { tail = w; text = rw q refl; then = subst (λ (x : List Frame). Reads x w) (same_go (step (close ∷ k) b) k l (rw q (step_close k)) e) r }
-    by (inr q) = absurd (apart (step (close ∷ k) b) l Unexpected e (step_close_not b k q))
-
-bad_good : (c : Cause) (w : Text) → bad c w ≡ good → ⊥
-bad_good c w p = let z : ◌≡◌ {A = ℕ} 0 1 = cc in omega arith
+unfolding step
+back [] b l w e r = cc
+back (types s a ∷ k) b l w e r = cons s a (b ∷ w) (λ v. v ≡ []) (back_begin s a b (types s a ∷ k) l w e r)
+back (one s a ∷ k) b l w e r = back_begin s a b k l w e r
+back (others s a ∷ k) b l w e r = elim (cases_eq b 41) [
+  | inl q ↦ record {
+    shapes = nil;
+    few_structures = omega arith;
+    few_arrays = omega arith;
+    tail = b ∷ w;
+    text = refl;
+    then = record { tail = w; text = rw q refl; then = let z : l ≡ k = cc in subst (λ (x : List Frame). Reads x w) z r };
+  }
+  | inr q ↦ cons s a (b ∷ w) (λ v. Next 41 v (Reads k)) (back_begin s a b (others s a ∷ k) l w (sym (step_others s a b k q) ∙ e) r)
+]
+back (element s a ∷ k) b l w e r = elim (cases_eq b 123) [
+  | inl q ↦ let z : l ≡ one s a ∷ one s a ∷ close ∷ k = cc in of_dictionary s a b w (Reads k) q (subst (λ (x : List Frame). Reads x w) z r)
+  | inr q ↦ let t = back_begin s a b k l w (sym (step_element s a b k q) ∙ e) r in
+      record { shape = array t.shape; few_structures = t.few_structures; few_arrays = omega (arith, t.few_arrays); tail = t.tail; text = ap (λ (x : Text). 97 ∷ x) t.text; then = t.then }
+]
+back (close ∷ k) b l w e r = elim (cases_eq b 125) [
+  | inl q ↦ record { tail = w; text = rw q refl; then = let z : l ≡ k = cc in subst (λ (x : List Frame). Reads x w) z r }
+  | inr q ↦ cc (step_close_not b k q)
+]
 
 pub sound : (w : Text) (k : List Frame) → run k w ≡ good → Reads k w
+unfolding run final
 sound [] [] e = refl
-sound [] (one s a ∷ k) e = absurd (bad_good Ended [] (sym (run_one s a k) ∙ e))
-sound [] (others s a ∷ k) e = absurd (bad_good Ended [] (sym (run_others s a k) ∙ e))
-sound [] (element s a ∷ k) e = absurd (bad_good Ended [] (sym (run_element s a k) ∙ e))
-sound [] (close ∷ k) e = absurd (bad_good Ended [] (sym (run_close k) ∙ e))
+sound [] (one s a ∷ k) e = cc
+sound [] (others s a ∷ k) e = cc
+sound [] (element s a ∷ k) e = cc
+sound [] (close ∷ k) e = cc
 sound [] (types s a ∷ k) e = record { shapes = nil; few_structures = omega arith; few_arrays = omega arith; tail = []; text = refl; then = refl }
-sound (b ∷ w) k e = sound_by b w k e (sound w) (step k b) refl
+sound (b ∷ w) k e = by (sound w) (step k b) refl
   where
-    sound_by : (b : ℕ) (w : Text) (k : List Frame) → run k (b ∷ w) ≡ good → ((l : List Frame) → run l w ≡ good → Reads l w) → (x : Step) → step k b ≡ x → Reads k (b ∷ w)
-    sound_by b w k e ih (go l) h = back k b l w h (ih l (sym (run_next k b l w h) ∙ e))
-    sound_by b w k e ih (stop c) h = absurd (bad_good c (b ∷ w) (sym (run_stop k b c w h) ∙ e))
+    by : ((l : List Frame) → run l w ≡ good → Reads l w) → (x : Step) → step k b ≡ x → Reads k (b ∷ w)
+    by ih (go l) h = back k b l w h (ih l (sym (run_next k b l w h) ∙ e))
+    by ih (stop c) h = cc (run_stop k b c w h)

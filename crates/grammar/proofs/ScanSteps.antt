@@ -1,6 +1,6 @@
 -- One byte of a run.
-use Rattle.std.proofs.Common.{◌≡◌, ℕ, ◌-◌, ◌<◌, Bool, true, false, eqb, ◌⊎◌, List, [], ◌∷◌, sym, refl, ◌∙◌, inl, inr, arith}
-use Rattle.std.proofs.lemmas.Bool.{eqb-true, eqb-false, ne_eqb, lt-ltb, le-ltb, cases_lt, cond-true, cond-false}
+use Rattle.std.proofs.Common.{◌≡◌, ℕ, ◌-◌, ◌<◌, true, false, ◌⊎◌, List, [], ◌∷◌, sym, refl, ◌∙◌, inl, inr, arith}
+use Rattle.std.proofs.lemmas.Bool.{ne_eqb, lt-ltb, le-ltb, cases_Bool, cases_eq, cases_lt, cond-true, cond-false}
 use Rattle.grammar.specs.declared.error.Cause.{Cause}
 use Rattle.grammar.specs.declared.error.Cause.TheVariants.{Ended, TooDeep, Unexpected}
 use Rattle.grammar.specs.Shape.{Text, is_basic}
@@ -21,10 +21,6 @@ run_same k l b w e = by (step l b) refl
     by (go m) h = run_next k b m w (e ∙ h) ∙ sym (run_next l b m w h)
     by (stop c) h = run_stop k b c w (e ∙ h) ∙ sym (run_stop l b c w h)
 
-pub run_final : (k : List Frame) → run k [] ≡ final k
-unfolding run
-run_final k = refl
-
 pub run_good : (s a : ℕ) (k : List Frame) → run (types s a ∷ k) [] ≡ good
 unfolding run final
 run_good s a k = refl
@@ -44,9 +40,6 @@ run_element s a k = refl
 pub run_close : (k : List Frame) → run (close ∷ k) [] ≡ bad Ended []
 unfolding run final
 run_close k = refl
-
-pub basic_at : (b n : ℕ) → b ≡ n → is_basic n ≡ false → is_basic b ≡ false
-basic_at b n e h = rw e h
 
 pub begin_basic : (s a b : ℕ) (k : List Frame) → is_basic b ≡ true → begin s a b k ≡ go k
 unfolding begin
@@ -123,22 +116,16 @@ pub data Begins (s a b : ℕ) (k : List Frame) : Type 0 where
   is_other : (b ≡ 97 → ⊥) → (b ≡ 40 → ⊥) → begin s a b k ≡ stop Unexpected → Begins s a b k
 
 pub begins : (s a b : ℕ) (k : List Frame) → Begins s a b k
-begins s a b k = first (is_basic b) refl
-  where
-    fifth : is_basic b ≡ false → (b ≡ 109 → ⊥) → (b ≡ 97 → ⊥) → (x : Bool) → eqb b 40 ≡ x → Begins s a b k
-    fifth h m y false e = is_other y (eqb-false b 40 e) (begin_unexpected s a b k h m y (eqb-false b 40 e))
-    fifth h m y true e = let q = eqb-true b 40 e in
-        elim (cases_lt 0 s) [ inl p ↦ is_structure q p (rw q (begin_structure s a k p)) | inr p ↦ is_deep (inr q) (rw q (begin_structure_deep s a k (omega arith))) ]
-
-    third : is_basic b ≡ false → (b ≡ 109 → ⊥) → (x : Bool) → eqb b 97 ≡ x → Begins s a b k
-    third h m true e = let q = eqb-true b 97 e in
-        elim (cases_lt 0 a) [ inl p ↦ is_array q p (rw q (begin_array s a k p)) | inr p ↦ is_deep (inl q) (rw q (begin_array_deep s a k (omega arith))) ]
-    third h m false e = fifth h m (eqb-false b 97 e) (eqb b 40) refl
-
-    second : is_basic b ≡ false → (x : Bool) → eqb b 109 ≡ x → Begins s a b k
-    second h true e = is_maybe (eqb-true b 109 e) (rw (eqb-true b 109 e) (begin_maybe s a k))
-    second h false e = third h (eqb-false b 109 e) (eqb b 97) refl
-
-    first : (x : Bool) → is_basic b ≡ x → Begins s a b k
-    first true e = is_code e (begin_basic s a b k e)
-    first false e = second e (eqb b 109) refl
+begins s a b k = elim (cases_Bool (is_basic b)) [
+  | inl h ↦ is_code h (begin_basic s a b k h)
+  | inr h ↦ elim (cases_eq b 109) [
+    | inl q ↦ is_maybe q (rw q (begin_maybe s a k))
+    | inr m ↦ elim (cases_eq b 97) [
+      | inl q ↦ elim (cases_lt 0 a) [ inl p ↦ is_array q p (rw q (begin_array s a k p)) | inr p ↦ is_deep (inl q) (rw q (begin_array_deep s a k (omega arith))) ]
+      | inr x ↦ elim (cases_eq b 40) [
+        | inl q ↦ elim (cases_lt 0 s) [ inl p ↦ is_structure q p (rw q (begin_structure s a k p)) | inr p ↦ is_deep (inr q) (rw q (begin_structure_deep s a k (omega arith))) ]
+        | inr y ↦ is_other x y (begin_unexpected s a b k h m x y)
+      ]
+    ]
+  ]
+]
