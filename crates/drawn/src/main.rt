@@ -5,13 +5,11 @@
 use grammar::error::{Cause, Refusal};
 use intake::filed::Filed;
 use intake::filing::LONGEST_FORM;
-use intake::input::read_input;
+use intake::input::{LONGEST_INPUT, read_input};
 use intake::replies::reply_to_lines;
 use sheet::row::{FieldRow, TypeRow};
 use sheet::sheet::Sheet;
 use std::io;
-
-const LONGEST_INPUT: usize = 65_536;
 
 const ROWS: usize = 1_024;
 

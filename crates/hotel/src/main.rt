@@ -9,7 +9,6 @@ use history::calls::Call;
 use history::replay::replay;
 use printing::printing::Printed;
 use sheet::row::{FieldRow, TypeRow};
-use std::str::from_utf8;
 use std::{fmt, io};
 use writers::writer::{BufferWriter, MatchingWriter};
 
@@ -59,7 +58,7 @@ struct Asked<'a>(&'a Call<'a>);
 impl<'a> fmt::Display for Asked<'a> {
     fn fmt<W: fmt::Write>(&self, f: &mut fmt::Formatter<W>) -> fmt::Result {
         match self.0 {
-            Call::FromBytes(text) => write!(f, "read {}", from_utf8(text).unwrap_or("")),
+            Call::FromBytes(text) => write!(f, "read {}", text.escape_ascii()),
             Call::Array(child) => write!(f, "array of {child}"),
             Call::Dict(key, value) => write!(f, "dictionary of {key} and {value}"),
             Call::Structure(fields) => {
@@ -110,6 +109,5 @@ fn main(rt: HostRuntime) -> io::Result<()> {
     println!(rt; "{SHIFTS}: {}", Answer(history.second.map(Entry)))?;
     let (type_rows, field_rows) = history.sheet.counts();
     println!(rt; "rows in use: {type_rows} of types, {field_rows} of fields")?;
-    let text = from_utf8(&form).unwrap_or("");
-    println!(rt; "the wage's shape: {text}")
+    println!(rt; "the wage's shape: {}", form.escape_ascii())
 }

@@ -4,11 +4,8 @@
 use sheet::row::{FieldRow, TypeRow};
 use sheet::sheet::Sheet;
 use std::io;
-use textlines::input::read_input;
+use textlines::input::{LONGEST_INPUT, read_input};
 use textlines::lines::Lines;
-
-// How many bytes of the input are read.
-const LONGEST_INPUT: usize = 65_536;
 
 // How many rows of each kind the sheet has.
 const ROWS: usize = 1_024;

@@ -70,19 +70,19 @@ fn read_new(types: &mut [TypeRow; FRESH], fields: &mut [FieldRow; FRESH], text: 
 }
 
 // The length of the printed form of `number` and its first byte, added up.
-fn print(sheet: &mut Sheet, form: &mut [u8; LONGEST_FORM], number: u16) -> u16 {
+fn print(sheet: &mut Sheet, form: &mut [u8; LONGEST_FORM], number: u16) -> u64 {
     let length = to_string(sheet, number, form).unwrap_or(0);
-    (length.min(LONGEST_FORM) as u16).wrapping_add(u16::from(form[0]))
+    (length as u64).wrapping_add(u64::from(form[0]))
 }
 
 // Does the work with each line, so many times, and adds up the answers.
-fn repeat<F: FnMut(&Line) -> u16>(times: u32, lines: &[Line], mut work: F) -> u64
+fn repeat<F: FnMut(&Line) -> u64>(times: u32, lines: &[Line], mut work: F) -> u64
     requires { F.IsAlwaysCallable work }
 {
     let mut sum = 0u64;
     for _ in 0..times {
         for line in lines {
-            sum = sum.wrapping_add(u64::from(work(line)));
+            sum = sum.wrapping_add(work(line));
         }
     }
     sum
@@ -97,13 +97,13 @@ fn repeat_job(job: Job, times: u32, sheet: &mut Sheet, lines: &[Line]) -> u64 {
             repeat(
                 times,
                 lines,
-                |line| read_new(&mut types, &mut fields, line.text.as_bytes()),
+                |line| u64::from(read_new(&mut types, &mut fields, line.text.as_bytes())),
             )
         }
         Job::Known => repeat(
             times,
             lines,
-            |line| sheet.from_bytes(line.text.as_bytes()).unwrap_or(0),
+            |line| u64::from(sheet.from_bytes(line.text.as_bytes()).unwrap_or(0)),
         ),
         Job::Print => {
             let mut form = [0; LONGEST_FORM];
@@ -112,7 +112,7 @@ fn repeat_job(job: Job, times: u32, sheet: &mut Sheet, lines: &[Line]) -> u64 {
         Job::Equal => repeat(
             times,
             lines,
-            |line| u16::from(eq_text(sheet, line.number, line.text.as_bytes()).unwrap_or(false)),
+            |line| u64::from(eq_text(sheet, line.number, line.text.as_bytes()).unwrap_or(false)),
         ),
     }
 }

@@ -40,8 +40,10 @@ fn deep<F: Fn(&mut Sheet, u16, usize) -> io::Result<()>>(
         .unwrap_or((0, 1));
     let answer = sheet.array(n);
     show(rt, "one array more", answer, &mut sheet)?;
-    let length = sheet.string_len(n).unwrap_or(0);
-    let (structures, arrays) = sheet.depths(n).unwrap_or((0, 0));
+    let length = Answer(sheet.string_len(n));
+    let depths = sheet.depths(n);
+    let structures = Answer(depths.map(|(structures, _)| structures));
+    let arrays = Answer(depths.map(|(_, arrays)| arrays));
     println!(rt; "{made} arrays: number {n}, length {length}, depths {structures} {arrays}")?;
     at_place(&mut sheet, n, 65_519)?;
     at_place(&mut sheet, n, 65_520)?;

@@ -73,7 +73,7 @@ fn build(rt: &HostRuntime, sheet: &mut Sheet) -> io::Result<()> {
 
 // The fields of a structure, by place.
 fn parts(rt: &HostRuntime, sheet: &mut Sheet, wage: u16) -> io::Result<()> {
-    let count = sheet.len(wage).unwrap_or(0);
+    let count = Answer(sheet.len(wage));
     println!(rt; "wage has {count} fields")?;
     for i in 0..5 {
         let field = sheet.get(wage, i).map(Found);

@@ -2,14 +2,11 @@
 #![tactic(auto)]
 
 use intake::filing::LONGEST_FORM;
-use intake::input::read_input;
+use intake::input::{LONGEST_INPUT, read_input};
 use intake::replies::reply_to_lines;
 use sheet::row::{FieldRow, TypeRow};
 use sheet::sheet::Sheet;
 use std::io;
-
-// How many bytes of the input are read.
-const LONGEST_INPUT: usize = 65_536;
 
 // How many rows of each kind the sheet has.
 const ROWS: usize = 1_024;
