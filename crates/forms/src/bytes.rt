@@ -26,7 +26,7 @@ fn first_byte(n: u16, p: usize) -> Option<u8>
         return None;
     }
     let i = n.checked_sub(1)?;
-    CODES.get(i as usize).copied()
+    CODES.get(usize::from(i)).copied()
 }
 
 // Whether `n` is a number of the sheet.
@@ -58,7 +58,7 @@ fn past(sheet: &mut Sheet, part: u16, p: usize) -> Option<usize>
     ensures past { MatchOption result (p < length (text_of (book_in sheet.old) part)) (λ rest. length (text_of (book_in sheet.old) part) + rest ≡ p) }
 {
     let length = length_of(sheet, part).unwrap_or(0);
-    p.checked_sub(length as usize)
+    p.checked_sub(usize::from(length))
 }
 
 // The field row numbered `at`, from 1; none at the end of a list of fields.
@@ -68,7 +68,7 @@ fn field_at(sheet: &mut Sheet, at: u16) -> Option<FieldRow>
     ensures field { MatchOption result (fields_from sheet.old at ≡ []) (λ x. FieldHere sheet.old at x) }
 {
     let i = at.checked_sub(1)?;
-    sheet.field_row(i as usize)
+    sheet.field_row(usize::from(i))
 }
 
 // A byte of what is written as a letter and a child.

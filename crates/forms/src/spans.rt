@@ -30,7 +30,7 @@ pub fn whole(sheet: &mut Sheet, n: u16) -> Result<Range<usize>, Refusal>
     ensures covers { MatchResult result (λ x. Covers (book_in sheet.old) n (text_of (book_in sheet.old) n) x) (λ e. NotKnown (book_in sheet.old) n e) }
 {
     let length = sheet.string_len(n)?;
-    Ok(0..length as usize)
+    Ok(0..usize::from(length))
 }
 
 // The places of the bare form of `n`: of a structure what stands in its outermost pair, otherwise all.
@@ -38,7 +38,7 @@ pub fn bare(sheet: &mut Sheet, n: u16) -> Result<Range<usize>, Refusal>
     ensures same { sheet.new ≡ sheet.old }
     ensures covers { MatchResult result (λ x. Covers (book_in sheet.old) n (bare_text (text_of (book_in sheet.old) n)) x) (λ e. NotKnown (book_in sheet.old) n e) }
 {
-    let length = sheet.string_len(n)? as usize;
+    let length = usize::from(sheet.string_len(n)?);
     if is_structure(sheet, n) {
         Ok(1..length - 1)
     } else {

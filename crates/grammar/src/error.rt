@@ -3,6 +3,7 @@ ghost use Rattle.std.specs.Prelude.{◌≡◌, [], ◌∷◌, Some as Shown};
 ghost use Rattle.grammar.specs.declared.error.Refusal.TheVariants.{Invalid as Faulty};
 ghost use Rattle.grammar.specs.Refusals.{letter_of, number_of, shown_of};
 
+use std::error::Error;
 use std::fmt;
 
 // Why a text goes wrong at its place.
@@ -91,11 +92,7 @@ impl fmt::Display for Cause {
     ghost output = { λ c. Shown (letter_of c ∷ []) };
 
     fn fmt<W: fmt::Write>(&self, f: &mut fmt::Formatter<W>) -> fmt::Result {
-        match self {
-            Cause::Ended => write!(f, "E"),
-            Cause::TooDeep => write!(f, "D"),
-            Cause::Unexpected => write!(f, "U"),
-        }
+        f.write_char(char::from(self.letter()))
     }
 }
 
@@ -111,9 +108,12 @@ impl fmt::Display for Refusal {
                 let place = fault.place;
                 write!(f, "{number} {cause} {place}")
             }
-            Refusal::Unknown(position) => write!(f, "{number} {position}"),
-            Refusal::UnitPart(position) => write!(f, "{number} {position}"),
+            Refusal::Unknown(position) | Refusal::UnitPart(position) => {
+                write!(f, "{number} {position}")
+            }
             _ => write!(f, "{number}"),
         }
     }
 }
+
+impl Error for Refusal {}

@@ -1,4 +1,5 @@
-// The grammar of D-Bus and GVariant signatures: its definitions and laws, and what a call says when it refuses.
+// The grammar of D-Bus and GVariant signatures: its definitions and laws, the codes, how long texts may be, what is known of a
+// signature besides its parts, and what a call says when it refuses.
 #![tactic(auto)]
 
 pub mod codes;

@@ -1,4 +1,4 @@
-// The parts of a container that is no structure.
+// The row of a container, and the parts of one that is no structure.
 ghost use Rattle.std.specs.Prelude.{◌≡◌, MatchResult};
 ghost use Rattle.grammar.specs.Refusals.{outcome};
 ghost use Rattle.layout.specs.Kept.{fields_in};

@@ -51,6 +51,6 @@ impl<'a> Sheet<'a> {
         ensures same { self.new ≡ self.old }
         ensures row { MatchOption result (tail_at (tails_on self.old) n ≡ []) (λ x. tail_at (tails_on self.old) n ≡ x.field ∷ tail_at (tails_on self.old) x.next) }
     {
-        self.field_row((n as usize).checked_sub(1)?)
+        self.field_row(usize::from(n).checked_sub(1)?)
     }
 }

@@ -1,4 +1,4 @@
-// The figures of a signature, worked out from those of its parts.
+// The figures of a signature: those that its row holds, or those of a basic code.
 ghost use Rattle.std.specs.Prelude.{◌≡◌, ◌<◌, MatchOption, MatchResult};
 ghost use Rattle.layout.specs.Figured.{Figured, NotKnown};
 ghost use Rattle.layout.specs.Format.{format_of};
@@ -31,7 +31,7 @@ impl<'a> Sheet<'a> {
         ensures figures { MatchResult result (λ f. Figured (nodes_on self.old) n f) (λ e. NotKnown (nodes_on self.old) n position e) }
     {
         let Some(i) = place_of(n) else {
-            return Ok(first_figures(n as usize));
+            return Ok(first_figures(usize::from(n)));
         };
         match self.type_row(i) {
             Some(row) => Ok(row.figures),

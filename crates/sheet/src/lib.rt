@@ -7,7 +7,7 @@ pub mod comparison;
 mod entering;
 pub mod fields;
 pub mod figures;
-pub mod lay;
+mod lay;
 pub mod makers;
 pub mod reading;
 pub mod row;

@@ -10,7 +10,7 @@ const FIRST: u16 = 15;
 pub fn place_of(n: u16) -> Option<usize>
     ensures { MatchOption result (n < 15) (λ i. n ≡ 15 + i) }
 {
-    Some(n.checked_sub(FIRST)? as usize)
+    Some(usize::from(n.checked_sub(FIRST)?))
 }
 
 // The number of the type row at place `i`.

@@ -5,4 +5,4 @@ use Rattle.forms.proofs.Texts.{code_byte}
 use Rattle.forms.proofs.bytes.first_byte.Goals as goal
 
 pub returns : goal.returns
-returns c = c.copied.ensures ∙ at_copied basic_codes c.in_ok-i.i c.get.result c.get.ensures.lookup ∙ code_byte c.args.n c.in_ok-i.i c.args.p (omega arith) c.in_ok-i.ensures
+returns c = c.copied.ensures ∙ at_copied basic_codes c.in_ok-i.i c.get.result (rw c.from.ensures at c.get.ensures.lookup) ∙ code_byte c.args.n c.in_ok-i.i c.args.p (omega arith) c.in_ok-i.ensures

@@ -12,4 +12,4 @@ returns-in_err-length-clause-covers c =
     refused_as c.args.sheet.now c.args.n (Covers b c.args.n (text_of b c.args.n)) c.from_residual.result c.in_err-length.field-0.0 c.from_residual.ensures c.in_err-length.ensures.answer
 
 pub returns-clause-covers : goal.returns-clause-covers
-returns-clause-covers c = whole_places c.args.sheet.now c.args.n c.in_ok-length.length c.in_ok-length.ensures.answer (omega arith)
+returns-clause-covers c = rw c.from.ensures (whole_places c.args.sheet.now c.args.n c.in_ok-length.length c.in_ok-length.ensures.answer (omega arith))
