@@ -27,7 +27,8 @@ fn place_in<R: Row>(rows: &mut [R], n: usize, row: &R) -> Option<usize>
     ensures same { rows.new ≡ rows.old }
     ensures found { MatchOption result (Absent R.Row.key rows.old (min n (length rows.old)) (R.Row.key row.now)) (λ i. (i < min n (length rows.old)) × ((d : R) → R.Row.key (slice_index_or rows.old i d) ≡ R.Row.key row.now)) }
 {
-    rows.iter().take(n).position(|r| r.same(row))
+    let used = n.min(rows.len());
+    rows[..used].iter().position(|r| r.same(row))
 }
 
 impl<'a, R: Row> RowList<'a, R> {
