@@ -1,7 +1,6 @@
 // Complete types in a row: a list of types and a type call for each other.
 ghost use Rattle.std.specs.Prelude.{◌≡◌, ◌-◌, ◌<◌, [], ◌∷◌};
 ghost use Rattle.grammar.specs.Shape.{is_basic};
-ghost use Rattle.grammar.specs.declared.error.Cause.TheVariants.{Ended as EndedEarly};
 ghost use Rattle.grammar.specs.Refusals.{outcome};
 ghost use Rattle.grammar.specs.Scan.{one, others, close};
 ghost use Rattle.reader.specs.Parsing.{Parsed, Reading, CountedOr};
@@ -38,16 +37,6 @@ pub fn is_basic(b: u8) -> bool
     )
 }
 
-// That the text ends at the place.
-fn ended(cursor: &Cursor) -> Fault
-    ensures { result ≡ record { cause = EndedEarly; place = cursor.now.at } }
-{
-    Fault {
-        cause: Cause::Ended,
-        place: cursor.at,
-    }
-}
-
 // What is wrong with the byte before the place.
 fn behind(cursor: &Cursor, cause: Cause) -> Fault
     requires { 0 < cursor.now.at }
@@ -64,7 +53,10 @@ fn end(cursor: &mut Cursor) -> Result<(), Fault>
     ensures { Reading cursor.old (close ∷ []) result cursor.new }
 {
     let Some(b) = cursor.take() else {
-        return Err(ended(cursor));
+        return Err(Fault {
+            cause: Cause::Ended,
+            place: cursor.at,
+        });
     };
     if b == b'}' {
         Ok(())
@@ -94,7 +86,10 @@ fn parse_signature(cursor: &mut Cursor, structures: u8, arrays: u8) -> Result<()
 {
     let b = loop {
         let Some(b) = cursor.take() else {
-            return Err(ended(cursor));
+            return Err(Fault {
+                cause: Cause::Ended,
+                place: cursor.at,
+            });
         };
         if b != b'm' {
             break b;

@@ -82,7 +82,7 @@ pub parse_signature-returns-in_default-clause-read : goal.parse_signature-return
 parse_signature-returns-in_default-clause-read t c =
     let i = c.loop-b.invariant in
     let e = ended _ _ _ (one c.args.structures c.args.arrays ∷ []) (run_one c.args.structures c.args.arrays) (c.in_default.ensures.byte.0 ∙ ap length i.0) c.in_default.ensures.byte.1 in
-    rw c.ended.ensures (record { within = e.within; breaks = λ k. i.2 c.args.structures c.args.arrays k ∙ e.breaks k })
+    record { within = e.within; breaks = λ k. i.2 c.args.structures c.args.arrays k ∙ e.breaks k }
 
 pub parse_signature-loop-b-preserved : goal.parse_signature-loop-b-preserved
 parse_signature-loop-b-preserved t c = (
