@@ -121,8 +121,8 @@ tails_are : (T : List (List Text)) (b : List Text) → tails_from T b ≡ add_al
 tails_are T [] = refl
 tails_are T (w ∷ b) = tails_are (add_all (same_list same_text) T (tails_at w)) b ∙ sym (add_all_append same_tails T (tails_at w) (flat_map tails_at b))
 
-tails_distinct : (b : List Text) → Distinct (tails_of b)
-tails_distinct b = rw (tails_are [] b) (distinct_add_all same_tails [] (flat_map tails_at b) tt)
+tails_distinct : (T : List (List Text)) (b : List Text) → Distinct T → Distinct (tails_from T b)
+tails_distinct T b d = rw (tails_are T b) (distinct_add_all same_tails T (flat_map tails_at b) d)
 
 -- a tail is one of the fields of a container that is held
 tail_of : (answers : List Answer) (b : List Text) → ((w : Text) → In w b → ContainerText answers b w) → (t : List Text) → In t (tails_of b) → Tail answers b t
@@ -171,7 +171,7 @@ facts limits cs =
     record {
       distinct = backed_distinct (run limits [] cs).1 k;
       texts = λ w. (of w, every limits [] none_yet cs w);
-      distinct_tails = tails_distinct (run limits [] cs).1;
+      distinct_tails = tails_distinct [] (run limits [] cs).1 tt;
       tails = λ t. (tail_of (run limits [] cs).0 (run limits [] cs).1 of t, of_tail (run limits [] cs).0 (run limits [] cs).1 (every limits [] none_yet cs) t);
       types = (fits_run limits [] (omega arith) cs).0;
       fields = (fits_run limits [] (omega arith) cs).1;

@@ -62,7 +62,7 @@ entered ns ss g x k = go (cases_Bool (has same_node ns x))
           texts = map_push printed ss (node_shape ss x) ∙ sym (add_new same_texts (map printed ss) (printed (node_shape ss x)) m);
         }
 
-wrap : (ss : List Shape) (s : Shape) (mid after : List Text) (ns : List Node) (new rest : List Shape) → after ≡ add same_text mid (printed s) → new ≡ ss ++ rest → Sound ns new → map printed new ≡ mid
+pub wrap : (ss : List Shape) (s : Shape) (mid after : List Text) (ns : List Node) (new rest : List Shape) → after ≡ add same_text mid (printed s) → new ≡ ss ++ rest → Sound ns new → map printed new ≡ mid
     → (x : Node) → Known (length new) x → node_shape new x ≡ s → Made ss s after (enter ns x)
 wrap ss s mid after ns new rest a e g t x k i =
     let m = entered ns new g x k in
@@ -181,7 +181,7 @@ text_is ss n p = ap (λ (z : List Text). get_or z n []) (known_is ss) ∙ by n p
     by zero p = absurd (omega arith)
     by (suc n) p = get_or-map printed (basics ++ ss) n byte [] (omega (arith, basics_long ss)) ∙ ap (λ (k : ℕ). printed (get_or (basics ++ ss) k byte)) (omega arith)
 
-empty_not : (s : Shape) → same_text (printed s) [] ≡ false
+pub empty_not : (s : Shape) → same_text (printed s) [] ≡ false
 empty_not s = let h = head s in rw h.text
 
 -- no two numbers have the same text

@@ -150,7 +150,7 @@ module _ {A B : Type 0} (sameA : A → A → Bool) (sameB : B → B → Bool) (R
   pub place2 : (xs : List A) (us : List B) (y : A) (v : B) → AllZip R xs us → R y v → place sameA xs y ≡ place sameB us v
   place2 xs us y v a r = by_zip R (λ ps qs. place sameA ps y ≡ place sameB qs v) refl (λ x u ps qs p b ih. rw (keep x y u v p r, ih)) xs us a
 
-  add2 : (xs : List A) (us : List B) (y : A) (v : B) → AllZip R xs us → R y v → AllZip R (add sameA xs y) (add sameB us v)
+  pub add2 : (xs : List A) (us : List B) (y : A) (v : B) → AllZip R xs us → R y v → AllZip R (add sameA xs y) (add sameB us v)
   add2 xs us y v a r = rw (has2 xs us y v a r) (cond_zip (has sameB us v))
     where
       cond_zip : (t : Bool) → AllZip R (cond t xs (xs ++ y ∷ [])) (cond t us (us ++ v ∷ []))

@@ -78,7 +78,7 @@ inner_is ss (structure []) k = absurd k
 inner_is ss (structure (n ∷ ns)) k = sym (append_assoc (containers (shape_at ss n)) (containers_all (shapes_at ss ns)) _)
 
 -- a container is the last of its containers
-boxed : (ss : List Shape) (x : Node) → Known (length ss) x → In (node_shape ss x) (containers (node_shape ss x))
+pub boxed : (ss : List Shape) (x : Node) → Known (length ss) x → In (node_shape ss x) (containers (node_shape ss x))
 boxed ss x k = rw (inner_is ss x k) (in_right _ (inner (node_shape ss x)) _ (inl refl))
 
 pub inner_in : (ss : List Shape) → Closed ss → (x : Node) → Known (length ss) x → (c : Shape) → In c (inner (node_shape ss x)) → In c ss
@@ -107,13 +107,13 @@ module _ (ns : List Node) (ss : List Shape) (g : Sound ns ss) (x : Node) (k : Kn
   pub has_same : has same_node ns x ≡ has same_text (map printed ss) (printed (node_shape ss x))
   has_same = has2 same_node same_text (Row ss) (keep_node ss g.apart) ns (map printed ss) x (printed (node_shape ss x)) g.each row
 
-  text_in : In (node_shape ss x) ss → In x ns
+  pub text_in : In (node_shape ss x) ss → In x ns
   text_in i = has_in same_nodes ns x (has_same ∙ in_has same_texts (map printed ss) (printed (node_shape ss x)) (in_map printed (node_shape ss x) ss i))
 
   pub in_text : In x ns → In (printed (node_shape ss x)) (map printed ss)
   in_text i = has_in same_texts (map printed ss) (printed (node_shape ss x)) (sym has_same ∙ in_has same_nodes ns x i)
 
-  fresh : (In x ns → ⊥) → In (node_shape ss x) (basics ++ ss) → ⊥
+  pub fresh : (In x ns → ⊥) → In (node_shape ss x) (basics ++ ss) → ⊥
   fresh n i = elim (in_split (node_shape ss x) basics ss i) [ inl j ↦ rw (bare (node_shape ss x) j) at (boxed ss x k) | inr j ↦ n (text_in j) ]
 
   pub pushed : (In x ns → ⊥) → Sound (ns ++ x ∷ []) (ss ++ node_shape ss x ∷ [])

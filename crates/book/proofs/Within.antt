@@ -28,7 +28,7 @@ mutual
     | inr j ↦ ended (structure t ts) tt (containers_all ts) c (λ j. let p = withins ts c j in (field (later p.0), p.1)) j
   ]
 
-  withins : (ts : Shapes) (c : Shape) → In c (containers_all ts) → WithinAny c ts × Container c
+  pub withins : (ts : Shapes) (c : Shape) → In c (containers_all ts) → WithinAny c ts × Container c
   withins nil c i = absurd i
   withins (more t ts) c i = elim (in_split c (containers t) (containers_all ts) i) [
     | inl j ↦ let p = within t c j in (first p.0, p.1)

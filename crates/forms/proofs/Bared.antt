@@ -14,6 +14,8 @@ use Rattle.sheet.specs.declared.sheet.Sheet.{Sheet}
 use Rattle.layout.specs.declared.row.TypeRow.{TypeRow}
 use Rattle.layout.specs.declared.row.FieldRow.{FieldRow}
 use Rattle.layout.specs.declared.row.Kind.{Kind}
+use denote.Enum.Bare.{sameb}
+use Rattle.layout.specs.contracts.row.Kind.{the_type}
 use Rattle.layout.specs.declared.row.Kind.TheVariants.{Blank, Array, Dict, Structure, Maybe}
 use Rattle.layout.specs.Tails.{tail_at, row_tails}
 use Rattle.layout.specs.Kept.{node_by, nodes_of, fields_in}
@@ -56,9 +58,13 @@ is_structure Dict = false
 is_structure Structure = true
 is_structure Maybe = false
 
-pub not_structure : (k : Kind) → (k ≡ Structure → ⊥) → is_structure k ≡ false
-not_structure Structure h = absurd (h refl)
-not_structure k h = refl
+-- as the test of a row's kind tells it
+pub kind_structure : (k : Kind) → is_structure k ≡ sameb the_type k Structure
+kind_structure Blank = refl
+kind_structure Array = refl
+kind_structure Dict = refl
+kind_structure Structure = refl
+kind_structure Maybe = refl
 
 kind_paired : (ss : List Shape) (m : ℕ) (F : List FieldRow) (k : Kind) (a b : ℕ) → Known m (node_by F k a b) → Paired (printed (node_shape ss (node_by F k a b))) (is_structure k)
 kind_paired ss m F Blank a b h = bare_printed (node_shape ss (Nodes.maybe a))
@@ -80,11 +86,11 @@ module _ (s : Sheet) (n l : ℕ) (h : accepted l ≡ string_length_of (book_in s
   told : Long (book_in s) n l
   told = told_known s n l h
 
-  pub whole_places : Covers (book_in s) n w (record { start = 0; end = l })
+  pub whole_places : Covers (book_in s) n w (record { from = 0; count = l })
   whole_places = record {
     known = told.known;
-    inside = record { ordered = omega arith; within = omega (arith, told.long); short = omega (arith, told.long) };
-    bytes = take_all (l - 0) w (omega (arith, told.long));
+    inside = record { within = omega (arith, told.long); short = omega (arith, told.long) };
+    bytes = take_all l w (omega (arith, told.long));
   }
 
   -- the sheet is the same where it is asked whether n is a structure
@@ -92,7 +98,7 @@ module _ (s : Sheet) (n l : ℕ) (h : accepted l ≡ string_length_of (book_in s
     here : (q : Bool) → Paired (text_of (book_in s') n) q → Paired w q
     here q p = subst (λ (z : Sheet). Paired (text_of (book_in z) n) q) e p
 
-    pub bare_places : Paired (text_of (book_in s') n) false → Covers (book_in s) n (bare_text w) (record { start = 0; end = l })
+    pub bare_places : Paired (text_of (book_in s') n) false → Covers (book_in s) n (bare_text w) (record { from = 0; count = l })
     bare_places p = record { known = whole_places.known; inside = whole_places.inside; bytes = whole_places.bytes ∙ sym (here false p) }
 
     module _ (p : Paired (text_of (book_in s') n) true) where
@@ -102,9 +108,9 @@ module _ (s : Sheet) (n l : ℕ) (h : accepted l ≡ string_length_of (book_in s
       pub pair_two : 2 ≤ l
       pair_two = omega (arith, told.long, two_more)
 
-      pub inner_places : Covers (book_in s) n (bare_text w) (record { start = 1; end = l - 1 })
+      pub inner_places : Covers (book_in s) n (bare_text w) (record { from = 1; count = l - 2 })
       inner_places = record {
         known = told.known;
-        inside = record { ordered = omega (arith, pair_two); within = omega (arith, told.long); short = omega (arith, told.long) };
-        bytes = ap (λ (t : Text). take (l - 1 - 1) (drop 1 t)) (here true p) ∙ take_at (bare_text w) (41 ∷ []) (l - 1 - 1) (omega (arith, told.long, two_more));
+        inside = record { within = omega (arith, told.long, pair_two); short = omega (arith, told.long) };
+        bytes = ap (λ (t : Text). take (l - 2) (drop 1 t)) (here true p) ∙ take_at (bare_text w) (41 ∷ []) (l - 2) (omega (arith, told.long, two_more));
       }

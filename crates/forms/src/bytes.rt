@@ -51,14 +51,21 @@ pub fn length_of(sheet: &mut Sheet, n: u16) -> Option<u16>
     Some(row.figures.length)
 }
 
-// How far place `p` is past the printed form of a part; none where it stands in that form.
+// How many bytes the printed form of a part has; a part that is no number of the sheet has the empty text.
 #[tactic(auto, using(crate::proofs::Known::length_or_none))]
+fn part_length(sheet: &mut Sheet, part: u16) -> usize
+    ensures same { sheet.new ≡ sheet.old }
+    ensures long { result ≡ length (text_of (book_in sheet.old) part) }
+{
+    usize::from(length_of(sheet, part).unwrap_or(0))
+}
+
+// How far place `p` is past the printed form of a part; none where it stands in that form.
 fn past(sheet: &mut Sheet, part: u16, p: usize) -> Option<usize>
     ensures same { sheet.new ≡ sheet.old }
     ensures past { MatchOption result (p < length (text_of (book_in sheet.old) part)) (λ rest. length (text_of (book_in sheet.old) part) + rest ≡ p) }
 {
-    let length = length_of(sheet, part).unwrap_or(0);
-    p.checked_sub(usize::from(length))
+    p.checked_sub(part_length(sheet, part))
 }
 
 // The field row numbered `at`, from 1; none at the end of a list of fields.
@@ -104,10 +111,11 @@ fn fields_step(sheet: &mut Sheet, first: u16, p: usize) -> Step
     let mut at = first;
     let mut left = p;
     while let Some(row) = field_at(sheet, at) {
-        let Some(behind) = past(sheet, row.field, left) else {
+        let length = part_length(sheet, row.field);
+        if left < length {
             return Step::Part(row.field, left);
-        };
-        left = behind;
+        }
+        left -= length;
         at = row.next;
     }
     Step::Done((left == 0).then_some(b')'))
@@ -129,20 +137,24 @@ fn row_step(sheet: &mut Sheet, row: TypeRow, p: usize) -> Step
     }
 }
 
-// The byte at place `p` of the printed form of `n`, none past its end. The inner call is the last step, so
-// that a level of nesting takes little stack.
+// The byte at place `p` of the printed form of `n`, none past its end. Each turn goes from a part into one of its own.
 pub fn byte(sheet: &mut Sheet, n: u16, p: usize) -> Option<u8>
     ensures same { sheet.new ≡ sheet.old }
     ensures byte { result ≡ slice_get (text_of (book_in sheet.old) n) p }
 {
-    let Some(i) = place_of(n) else {
-        return first_byte(n, p);
-    };
-    let row = sheet.type_row(i)?;
-    match row_step(sheet, row, p) {
-        Step::Done(found) => found,
-        Step::Part(part, place) => byte(sheet, part, place),
+    let mut part = n;
+    let mut place = p;
+    while let Some(i) = place_of(part) {
+        let row = sheet.type_row(i)?;
+        match row_step(sheet, row, place) {
+            Step::Done(found) => return found,
+            Step::Part(inner, behind) => {
+                part = inner;
+                place = behind;
+            }
+        }
     }
+    first_byte(part, place)
 }
 
 // The byte at place `p` of the printed form of `n`, none past its end.
@@ -151,9 +163,11 @@ pub fn byte_at(sheet: &mut Sheet, n: u16, p: usize) -> Result<Option<u8>, Refusa
     ensures same { sheet.new ≡ sheet.old }
     ensures answer { outcome result ≡ byte_of (book_in sheet.old) n p }
 {
-    if is_known(sheet, n) {
-        Ok(byte(sheet, n, p))
-    } else {
-        Err(Refusal::Unknown(0))
+    if !is_known(sheet, n) {
+        return Err(Refusal::Unknown(0));
+    }
+    match past(sheet, n, p) {
+        Some(_) => Ok(None),
+        None => Ok(byte(sheet, n, p)),
     }
 }

@@ -8,7 +8,13 @@ ghost use Rattle.forms.specs.Spans.{Covers, NotKnown};
 use grammar::error::Refusal;
 use sheet::row::{Kind, place_of};
 use sheet::sheet::Sheet;
-use std::ops::Range;
+
+// Some bytes of a printed form in a row: the place of the first, and how many. A `Range` would not be `Copy`.
+#[derive(Clone, Copy)]
+pub struct Span {
+    pub from: usize,
+    pub count: usize,
+}
 
 // Whether `n` is a structure.
 fn is_structure(sheet: &mut Sheet, n: u16) -> bool
@@ -19,29 +25,35 @@ fn is_structure(sheet: &mut Sheet, n: u16) -> bool
         return false;
     };
     match sheet.type_row(i) {
-        Some(row) => matches!(row.kind, Kind::Structure),
+        Some(row) => row.kind == Kind::Structure,
         None => false,
     }
 }
 
-// The places of the whole printed form of `n`.
-pub fn whole(sheet: &mut Sheet, n: u16) -> Result<Range<usize>, Refusal>
+// The whole printed form of `n`.
+pub fn whole(sheet: &mut Sheet, n: u16) -> Result<Span, Refusal>
     ensures same { sheet.new ≡ sheet.old }
     ensures covers { MatchResult result (λ x. Covers (book_in sheet.old) n (text_of (book_in sheet.old) n) x) (λ e. NotKnown (book_in sheet.old) n e) }
 {
     let length = sheet.string_len(n)?;
-    Ok(0..usize::from(length))
+    Ok(Span {
+        from: 0,
+        count: usize::from(length),
+    })
 }
 
-// The places of the bare form of `n`: of a structure what stands in its outermost pair, otherwise all.
-pub fn bare(sheet: &mut Sheet, n: u16) -> Result<Range<usize>, Refusal>
+// The bare form of `n`: of a structure what stands in its outermost pair, otherwise all.
+pub fn bare(sheet: &mut Sheet, n: u16) -> Result<Span, Refusal>
     ensures same { sheet.new ≡ sheet.old }
     ensures covers { MatchResult result (λ x. Covers (book_in sheet.old) n (bare_text (text_of (book_in sheet.old) n)) x) (λ e. NotKnown (book_in sheet.old) n e) }
 {
-    let length = usize::from(sheet.string_len(n)?);
+    let count = usize::from(sheet.string_len(n)?);
     if is_structure(sheet, n) {
-        Ok(1..length - 1)
+        Ok(Span {
+            from: 1,
+            count: count - 2,
+        })
     } else {
-        Ok(0..length)
+        Ok(Span { from: 0, count })
     }
 }

@@ -14,7 +14,7 @@ use Rattle.history.specs.declared.calls.Call.{Call as Coded}
 use Rattle.history.specs.Calls.{call_of, calls_of, Recorded}
 use Rattle.history.specs.Ran.{Ran}
 
-run_long : (limits : Limits) (b : List Text) (cs : List Call) → length (run limits b cs).0 ≡ length cs
+pub run_long : (limits : Limits) (b : List Text) (cs : List Call) → length (run limits b cs).0 ≡ length cs
 run_long limits b [] = refl
 run_long limits b (c ∷ cs) = grind (arith, run_long limits (call limits b c).1 cs)
 

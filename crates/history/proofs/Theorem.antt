@@ -73,7 +73,7 @@ willing_all s w h = sym ((longest s.rule s.taken w).1 (length w) (record {
   ends = λ l. absurd (omega arith);
 }))
 
-whole_text_is : (b : List Text) (n : ℕ) (a : Outcome Account) (old new : State) → Accounted b n a old new → InBook b n → Willing old (text_of b n) → new.taken ≡ text_of b n
+pub whole_text_is : (b : List Text) (n : ℕ) (a : Outcome Account) (old new : State) → Accounted b n a old new → InBook b n → Willing old (text_of b n) → new.taken ≡ text_of b n
 unfolding account_of
 whole_text_is b n a old new x k h = grind (arith, common_steps, nat_tests, x.answer, x.took.taken, h.empty, willing_all old (text_of b n) h, take_all (length (text_of b n)) (text_of b n))
 

@@ -7,14 +7,13 @@ ghost use Rattle.printing.specs.Forms.{eq_text_of};
 ghost use Rattle.forms.specs.Spans.{bytes_in, Inside};
 
 use crate::printing::offer_span;
-use forms::spans::{bare, whole};
+use forms::spans::{Span, bare, whole};
 use grammar::error::Refusal;
 use sheet::sheet::Sheet;
-use std::ops::Range;
 use writers::writer::MatchingWriter;
 
 // Whether the text is just these bytes of the printed form of `n`.
-fn is_span(sheet: &mut Sheet, n: u16, span: Range<usize>, text: &[u8]) -> bool
+fn is_span(sheet: &mut Sheet, n: u16, span: Span, text: &[u8]) -> bool
     requires { Inside (text_of (book_in sheet.old) n) span }
     ensures same { sheet.new ≡ sheet.old }
     ensures equal { result ≡ same_text text.now (bytes_in span (text_of (book_in sheet.old) n)) }

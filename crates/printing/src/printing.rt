@@ -9,10 +9,9 @@ ghost use Rattle.printing.specs.Forms.{written_of, count_in, OnRefusal, filling,
 ghost use Rattle.forms.specs.Spans.{bytes_in, Inside};
 
 use forms::bytes::byte;
-use forms::spans::{bare, whole};
+use forms::spans::{Span, bare, whole};
 use grammar::error::Refusal;
 use sheet::sheet::Sheet;
-use std::ops::Range;
 use writers::writer::{BufferWriter, Writer};
 
 // How many bytes a writer took, and whether those were all.
@@ -23,25 +22,19 @@ pub struct Printed {
 }
 
 // Offers some bytes of the printed form of `n` in order, until one is declined.
-pub(crate) fn offer_span<W: Writer>(
-    sheet: &mut Sheet,
-    n: u16,
-    span: Range<usize>,
-    w: &mut W,
-) -> Printed
+pub(crate) fn offer_span<W: Writer>(sheet: &mut Sheet, n: u16, span: Span, w: &mut W) -> Printed
     requires { Inside (text_of (book_in sheet.old) n) span }
     ensures same { sheet.new ≡ sheet.old }
     ensures wrote { Wrote (W.state w.old) (W.state w.new) (bytes_in span (text_of (book_in sheet.old) n)) result.taken result.all }
 {
-    let count = span.len();
-    for taken in 0..count {
-        let b = byte(sheet, n, span.start + taken).unwrap();
+    for taken in 0..span.count {
+        let b = byte(sheet, n, span.from + taken).unwrap();
         if !w.offer(b) {
             return Printed { taken, all: false };
         }
     }
     Printed {
-        taken: count,
+        taken: span.count,
         all: true,
     }
 }
@@ -75,13 +68,13 @@ pub fn write_as_string_no_parens<W: Writer>(
 }
 
 // Puts some bytes of the printed form of `n` to the front of the buffer, if it has room for all of them.
-fn fill(sheet: &mut Sheet, n: u16, span: Range<usize>, buffer: &mut [u8]) -> Result<usize, Refusal>
+fn fill(sheet: &mut Sheet, n: u16, span: Span, buffer: &mut [u8]) -> Result<usize, Refusal>
     requires { Inside (text_of (book_in sheet.old) n) span }
     ensures same { sheet.new ≡ sheet.old }
     ensures answer { outcome result ≡ filling (bytes_in span (text_of (book_in sheet.old) n)) (length buffer.old) }
     ensures after { buffer.new ≡ into_after (outcome result) (bytes_in span (text_of (book_in sheet.old) n)) buffer.old }
 {
-    if buffer.len() < span.len() {
+    if buffer.len() < span.count {
         return Err(Refusal::ShortBuffer);
     }
     let mut w = BufferWriter::new(buffer);

@@ -137,7 +137,7 @@ byte_in at b to e p = subst (λ (x : Text). Byte x at b to) e p
 abbrev pub Behind : Text → ℕ → ℕ → Type 0
 Behind text from at = (s a : ℕ) (k : List Frame) → run (one s a ∷ k) (drop from text) ≡ run (one s a ∷ k) (drop at text)
 
-opened : (text : Text) (from at b to : ℕ) → from ≤ at → Behind text from at → Byte text at b to → (b ≡ 109 → ⊥) → Opened text from b to
+pub opened : (text : Text) (from at b to : ℕ) → from ≤ at → Behind text from at → Byte text at b to → (b ≡ 109 → ⊥) → Opened text from b to
 opened text from at b to le h y n =
     let p : to - 1 ≡ at = omega arith in
     record { forward = omega arith; within = omega arith; not_maybe = n; here = rw (p, y.1) y.2; reads = λ s a k. h s a k ∙ rw (y.1, y.2) refl }

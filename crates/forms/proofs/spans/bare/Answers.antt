@@ -18,8 +18,8 @@ overflow_sub-result c =
 
 pub returns-then-is_structure-clause-covers : goal.returns-then-is_structure-clause-covers
 returns-then-is_structure-clause-covers c =
-    rw c.from-length.ensures (inner_places c.args.sheet.now c.args.n c.in_ok-string_len.field-0 c.in_ok-string_len.ensures.answer (omega arith) c.string_len.ensures.same c.if-is_structure.ensures.paired)
+    rw c.from-count.ensures (inner_places c.args.sheet.now c.args.n c.in_ok-string_len.field-0 c.in_ok-string_len.ensures.answer (omega arith) c.string_len.ensures.same c.if-is_structure.ensures.paired)
 
 pub returns-else-is_structure-clause-covers : goal.returns-else-is_structure-clause-covers
 returns-else-is_structure-clause-covers c =
-    rw c.from-length.ensures (bare_places c.args.sheet.now c.args.n c.in_ok-string_len.field-0 c.in_ok-string_len.ensures.answer (omega arith) c.string_len.ensures.same c.if-is_structure.ensures.paired)
+    rw c.from-count.ensures (bare_places c.args.sheet.now c.args.n c.in_ok-string_len.field-0 c.in_ok-string_len.ensures.answer (omega arith) c.string_len.ensures.same c.if-is_structure.ensures.paired)

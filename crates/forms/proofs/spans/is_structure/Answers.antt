@@ -1,8 +1,8 @@
-use Rattle.std.proofs.Common.{true, false, length, ap, arith}
+use Rattle.std.proofs.Common.{length, sym, ap, ◌∙◌, arith}
 use Rattle.book.specs.Plain.{text_of}
 use Rattle.sheet.specs.Seen.{book_in}
 use Rattle.forms.proofs.Texts.{row_at, no_row, no_text, first_short}
-use Rattle.forms.proofs.Bared.{bare_short, is_structure, not_structure, row_paired}
+use Rattle.forms.proofs.Bared.{bare_short, kind_structure, row_paired}
 use Rattle.forms.proofs.spans.is_structure.Goals as goal
 
 pub returns-in_default-clause-paired : goal.returns-in_default-clause-paired
@@ -13,12 +13,6 @@ returns-in-None-clause-paired c =
     let s = c.args.sheet.now in
     bare_short (text_of (book_in s) c.args.n) (omega (arith, ap length (no_text (book_in s) c.args.n (no_row s c.in-Some.ensures c.in-None.ensures.row))))
 
-pub returns-in-Structure-clause-paired : goal.returns-in-Structure-clause-paired
-returns-in-Structure-clause-paired c =
-    row_paired c.args.sheet.now (row_at c.args.sheet.now c.in-Some.ensures c.in-Some-type_row.ensures.row) true (ap is_structure c.in-Structure.is)
-
-pub returns-in_default-matches : goal.returns-in_default-matches
-returns-in_default-matches c = record {
-  same = c.in-Some-type_row.ensures.same;
-  paired = row_paired c.args.sheet.now (row_at c.args.sheet.now c.in-Some.ensures c.in-Some-type_row.ensures.row) false (not_structure c.in-Some-type_row.row.kind c.in_default-matches.not-Structure);
-}
+pub returns-in-Some-type_row-clause-paired : goal.returns-in-Some-type_row-clause-paired
+returns-in-Some-type_row-clause-paired c =
+    row_paired c.args.sheet.now (row_at c.args.sheet.now c.in-Some.ensures c.in-Some-type_row.ensures.row) c.eq.result (kind_structure c.in-Some-type_row.row.kind ∙ sym c.eq.ensures)
