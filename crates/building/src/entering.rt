@@ -97,7 +97,7 @@ impl<'m, 't, M: Maker, const N: usize> Builder<'m, 't, M, N> {
         structure
     }
 
-    // A complete type that is no maybe. Where none stands, as in no valid text, it is a refusal.
+    // A complete type that is no maybe. Where none stands, as in no valid text, it is a refusal at the end, and else Unit.
     #[cycle(bare_signature_many_signature)]
     fn bare_signature(&mut self) -> Result<u16, Refusal>
         ensures went { Went M.grew M.limits self.old self.new result }
@@ -119,7 +119,7 @@ impl<'m, 't, M: Maker, const N: usize> Builder<'m, 't, M, N> {
                 }
             }
             b'(' => self.many(),
-            _ => code_number(b).ok_or(Refusal::NoRows),
+            _ => Ok(code_number(b).unwrap_or(0)),
         }
     }
 
