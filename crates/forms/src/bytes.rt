@@ -38,16 +38,16 @@ pub fn is_known(sheet: &mut Sheet, n: u16) -> bool
     sheet.string_len(n).is_ok()
 }
 
-// How many bytes the printed form of `n` has, none where it is no number of the sheet. The row is read here, since over
-// `string_len` the function `byte` would take seven times as much stack for a level of nesting.
+// How many bytes the printed form of `n` has, none where it is no number of the sheet. Printing asks this for each field on
+// the way to each byte, so it compares numbers and reads the row itself.
 pub fn length_of(sheet: &mut Sheet, n: u16) -> Option<u16>
     ensures same { sheet.new ≡ sheet.old }
     ensures long { result ≡ length_in (book_in sheet.old) n }
 {
-    let Some(i) = place_of(n) else {
-        return Some(n.min(1));
-    };
-    let row = sheet.type_row(i)?;
+    if n < 15 {
+        return Some(if n == 0 { 0 } else { 1 });
+    }
+    let row = sheet.type_row(place_of(n)?)?;
     Some(row.figures.length)
 }
 
